@@ -66,9 +66,12 @@ length-rest : (m : List ℕ) → length (rest m) ≡ length m % 64 + 9 + zeros (
 unfolding rest
 length-rest m = length-drop (whole m) (pad m) ∙ ap (λ (n : ℕ). n - whole m) (length-pad m) ∙ omega arith
 
--- a padded message is whole blocks
-pub pad-whole : (m : List ℕ) → length (pad m) % 64 ≡ 0
-pad-whole m = ap (λ (n : ℕ). n % 64) (length-pad m) ∙ omega arith
+-- `zeros n` is what 5.1.1 asks: after n bytes, the byte of the bit 1 and that many zeros, 56 bytes of a block are filled, and no fewer do it
+pub zeros-fill : (n : ℕ) → (n + 1 + zeros n) % 64 ≡ 56
+zeros-fill n = omega arith
+
+pub zeros-least : (n z : ℕ) → (n + 1 + z) % 64 ≡ 56 → zeros n ≤ z
+zeros-least n z h = omega arith
 
 -- ---- blocks
 

@@ -22,15 +22,6 @@ fn print(d: &[u8], name: &[u8]) {
     io::write_all(STDOUT_FILENO, b"\n");
 }
 
-// Copies d to the front of out, as far as out goes.
-fn copy(out: &mut [u8], d: &[u8]) {
-    for i in 0..d.len() {
-        if i < out.len() {
-            out[i] = d[i];
-        }
-    }
-}
-
 // Bytes that differ from their neighbours.
 fn pattern() -> [u8; 130] {
     let mut p = [0u8; 130];
@@ -44,10 +35,15 @@ fn pattern() -> [u8; 130] {
 fn all_lengths() -> [u8; 4192] {
     let p = pattern();
     let mut all = [0u8; 4192];
-    for n in 0..131 {
-        copy(&mut all[n * 32..], &sha256::digest(&p[..n]));
+    for i in 0..4192 {
+        let d = sha256::digest(&p[..i / 32]);
+        all[i] = d[i % 32];
     }
     all
+}
+
+fn million() -> [u8; 1_000_000] {
+    [b'a'; 1_000_000]
 }
 
 fn main() {
@@ -58,7 +54,7 @@ fn main() {
     let m896 =
         b"abcdefghbcdefghicdefghijdefghijkefghijklfghijklmghijklmnhijklmnoijklmnopjklmnopqklmnopqrlmnopqrsmnopqrstnopqrstu";
     print(&sha256::digest(m896), b"896 bits");
-    print(&sha256::digest(&[b'a'; 1_000_000]), b"a million times a");
+    print(&sha256::digest(&million()), b"a million times a");
     print(
         &sha256::digest(&all_lengths()),
         b"the digests of 131 lengths",

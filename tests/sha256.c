@@ -32,13 +32,12 @@ int main(void) {
         x ^= x << 17;
         m[i] = (uint8_t)(x >> 24);
     }
-    compare(NULL, 0);
     for (size_t n = 0; n <= 1100; n++)
         for (size_t at = 0; at < 8; at++)
             compare(m + at, n);
     for (size_t blocks = 32; blocks <= MOST / 64; blocks *= 2)
-        for (int d = -10; d <= 10; d++)
-            compare(m, blocks * 64 + (size_t)(d + 10) - 10);
+        for (size_t n = blocks * 64 - 10; n <= blocks * 64 + 10; n++)
+            compare(m, n);
     printf("sha256: %lu messages, no difference from OpenSSL\n", compared);
     free(m);
     return 0;

@@ -13,52 +13,7 @@ use super::functions::small_sigma0;
 use super::functions::small_sigma1;
 use std::num::wrapping_add_u32;
 
-// A hash value, or the eight working variables.
-pub struct State {
-    pub a: u32,
-    pub b: u32,
-    pub c: u32,
-    pub d: u32,
-    pub e: u32,
-    pub f: u32,
-    pub g: u32,
-    pub h: u32,
-}
-
-// T1 of a round, with its constant k and its word w of the schedule.
-fn temp1(s: State, k: u32, w: u32) -> u32
-    ensures { λ r. ⌜ r ≡ T₁ k w (valueOf s) ⌝ }
-{
-    let x = wrapping_add_u32(s.h, big_sigma1(s.e));
-    let y = wrapping_add_u32(x, choose(s.e, s.f, s.g));
-    wrapping_add_u32(wrapping_add_u32(y, k), w)
-}
-
-// T2 of a round.
-fn temp2(s: State) -> u32
-    ensures { λ r. ⌜ r ≡ T₂ (valueOf s) ⌝ }
-{
-    wrapping_add_u32(big_sigma0(s.a), majority(s.a, s.b, s.c))
-}
-
-// One round, with its constant k and its word w of the schedule.
-fn round(s: State, k: u32, w: u32) -> State
-    ensures { λ r. ⌜ valueOf r ≡ fips.round k w (valueOf s) ⌝ }
-{
-    let t1 = temp1(s, k, w);
-    let t2 = temp2(s);
-    State {
-        a: wrapping_add_u32(t1, t2),
-        b: s.a,
-        c: s.b,
-        d: s.c,
-        e: wrapping_add_u32(s.d, t1),
-        f: s.e,
-        g: s.f,
-        h: s.g,
-    }
-}
-
+// Section 4.2.2: the constants of the rounds.
 const CONSTANTS: [u32; 64] = [
     0x428a_2f98,
     0x7137_4491,
@@ -125,6 +80,52 @@ const CONSTANTS: [u32; 64] = [
     0xbef9_a3f7,
     0xc671_78f2,
 ];
+
+// A hash value, or the eight working variables.
+pub struct State {
+    pub a: u32,
+    pub b: u32,
+    pub c: u32,
+    pub d: u32,
+    pub e: u32,
+    pub f: u32,
+    pub g: u32,
+    pub h: u32,
+}
+
+// T1 of a round, with its constant k and its word w of the schedule.
+fn temp1(s: State, k: u32, w: u32) -> u32
+    ensures { λ r. ⌜ r ≡ T₁ k w (valueOf s) ⌝ }
+{
+    let x = wrapping_add_u32(s.h, big_sigma1(s.e));
+    let y = wrapping_add_u32(x, choose(s.e, s.f, s.g));
+    wrapping_add_u32(wrapping_add_u32(y, k), w)
+}
+
+// T2 of a round.
+fn temp2(s: State) -> u32
+    ensures { λ r. ⌜ r ≡ T₂ (valueOf s) ⌝ }
+{
+    wrapping_add_u32(big_sigma0(s.a), majority(s.a, s.b, s.c))
+}
+
+// One round, with its constant k and its word w of the schedule.
+fn round(s: State, k: u32, w: u32) -> State
+    ensures { λ r. ⌜ valueOf r ≡ fips.round k w (valueOf s) ⌝ }
+{
+    let t1 = temp1(s, k, w);
+    let t2 = temp2(s);
+    State {
+        a: wrapping_add_u32(t1, t2),
+        b: s.a,
+        c: s.b,
+        d: s.c,
+        e: wrapping_add_u32(s.d, t1),
+        f: s.e,
+        g: s.f,
+        h: s.g,
+    }
+}
 
 // Round t over the schedule w: where s is what t rounds make of v, the result is what t + 1 rounds make of it.
 fn round_at(s: State, k: &[u32; 64], w: &[u32; 64], t: usize) -> State

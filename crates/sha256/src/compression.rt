@@ -135,8 +135,7 @@ fn round_at(s: State, k: &[u32; 64], w: &[u32; 64], t: usize) -> State
     round(s, k[t], w[t])
 }
 
-// Eight rounds, from round t on. Written out, since the compiler does not unroll a loop over them, and after eight rounds each
-// working variable is back in its place.
+// Eight rounds, from round t on. Written out: after eight rounds each working variable is back in its place.
 fn eight_rounds(s: State, k: &[u32; 64], w: &[u32; 64], t: usize) -> State
     requires { ⌜ (t + 8 ≤ 64) × (now k ≡ K) ⌝ }
     ensures { λ r. ⌜ ((v : Value) → valueOf s ≡ fips.rounds t (now (w .entry)) v → valueOf r ≡ fips.rounds (t + 8) (now (w .entry)) v) ⌝ }

@@ -1,0 +1,64 @@
+-- The worked examples of the message layer as data.
+use Prim.Native.Nat.{ℕ, _-_, _^_}
+use mathlib.Core.List.{List, [], _∷_, _++_}
+use lib.ListN.{replicate}
+use Rattle.message.specs.Bound.{infinity, finite}
+use Rattle.message.specs.Message.{skip, fingerprint, ids, Range, range}
+
+-- E1: a value and its spelling
+pub record Varint : Type 0 where
+  pub value : ℕ
+  pub bytes : List ℕ
+
+abbrev pub varints : List Varint
+varints =
+    record { value = 0; bytes = 0x00 ∷ [] }
+    ∷ record { value = 127; bytes = 0x7F ∷ [] }
+    ∷ record { value = 128; bytes = 0x81 ∷ 0x00 ∷ [] }
+    ∷ record { value = 300; bytes = 0x82 ∷ 0x2C ∷ [] }
+    ∷ record { value = 2 ^ 64 - 1; bytes = 0x81 ∷ (replicate 8 0xFF ++ (0x7F ∷ [])) }
+    ∷ []
+
+-- a message that is refused, and the number
+pub record Refused : Type 0 where
+  pub bytes : List ℕ
+  pub number : ℕ
+
+-- E2, E7, E8, E9
+abbrev pub refusals : List Refused
+refusals =
+    record { bytes = 0x61 ∷ 0x80 ∷ []; number = 8 }
+    ∷ record { bytes = 0x61 ∷ 0x82 ∷ (replicate 8 0x80 ++ (0x00 ∷ [])); number = 8 }
+    ∷ record { bytes = 0x61 ∷ 0x06 ∷ 0x00 ∷ 0x00 ∷ 0x01 ∷ 0x00 ∷ 0x00 ∷ []; number = 9 }
+    ∷ record { bytes = 0x61 ∷ 0x00 ∷ 0x01 ∷ 0x07 ∷ 0x00 ∷ []; number = 9 }
+    ∷ record { bytes = 0x61 ∷ 0x00 ∷ 0x00 ∷ 0x03 ∷ []; number = 10 }
+    ∷ record { bytes = 0x61 ∷ 0x00 ∷ 0x00 ∷ 0x01 ∷ replicate 15 0xAB; number = 7 }
+    ∷ []
+
+-- a message and its ranges
+pub record Message : Type 0 where
+  pub bytes : List ℕ
+  pub ranges : List Range
+
+-- E9 with 16 bytes, and the message that showmsg prints
+abbrev pub messages : List Message
+messages =
+    record { bytes = 0x61 ∷ 0x00 ∷ 0x00 ∷ 0x01 ∷ replicate 16 0xAB; ranges = range infinity (fingerprint (replicate 16 0xAB)) ∷ [] }
+    ∷ record {
+      bytes = 0x61 ∷ 0x08 ∷ 0x01 ∷ 0x03 ∷ 0x00 ∷ 0x00 ∷ 0x00 ∷ 0x02 ∷ 0x00 ∷ [];
+      ranges = range (finite 7 (0x03 ∷ [])) skip ∷ range infinity (ids []) ∷ [];
+    }
+    ∷ []
+
+-- ranges that are written otherwise than they are handed over: neighbouring skips, and final ones
+abbrev pub merged : List Message
+merged =
+    record {
+      ranges = range (finite 5 []) skip ∷ range (finite 7 []) skip ∷ range (finite 9 []) (ids []) ∷ [];
+      bytes = 0x61 ∷ 0x08 ∷ 0x00 ∷ 0x00 ∷ 0x03 ∷ 0x00 ∷ 0x02 ∷ 0x00 ∷ [];
+    }
+    ∷ record {
+      ranges = range (finite 9 []) (ids []) ∷ range (finite 10 []) skip ∷ range (finite 11 []) skip ∷ [];
+      bytes = 0x61 ∷ 0x0A ∷ 0x00 ∷ 0x02 ∷ 0x00 ∷ [];
+    }
+    ∷ []

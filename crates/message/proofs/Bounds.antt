@@ -3,7 +3,7 @@ use Prim.Native.Nat.{ℕ, zero, suc, _+_, _-_, _*_, _^_, _<_, _≤_}
 use mathlib.Core.Path.{_≡_, refl}
 use mathlib.Core.List.{List, [], _∷_, _++_, append-assoc}
 use native.Mathlib.Omega.{arith}
-use native.Mathlib.Nat.{pow-suc, mul-le-mul-right}
+use native.Mathlib.Nat.{mul-le-mul-right}
 use native.Mathlib.Decide.{decLe}
 use lib.ListN.{length}
 use lib.Dec.{ltb, leb}
@@ -14,23 +14,16 @@ use Rattle.message.specs.Bound.{Bound, infinity, finite, time, prefix, b
 use Rattle.message.specs.WellFormed.{Bytes, LawfulBound}
 use Rattle.message.proofs.Exact.{Spelled, Exact, got, given, judged, exact-bytes}
 use Rattle.message.proofs.Varints.{exact-varint}
+use Rattle.message.proofs.Order.{bytes-small, bigEndian-small}
 
 -- ---- rising keys have no falling times
-
-bigEndian-small : (n : ℕ) (p : List ℕ) → Bytes p → bigEndian n p < 256 ^ n
-unfolding bigEndian
-bigEndian-small zero p h = omega arith
-bigEndian-small (suc n) [] h = rw pow-suc (omega (arith, bigEndian-small n [] tt))
-bigEndian-small (suc n) (b ∷ p) h =
-    let top : suc b * 256 ^ n ≤ 256 * 256 ^ n = mul-le-mul-right (256 ^ n) (h .0) in
-    rw pow-suc (omega (arith, bigEndian-small n p (h .1)))
 
 no-fall : (s a t x y : ℕ) → a * s + x < t * s + y → y < s → a ≤ t
 no-fall s a t x y h l = elim (decLe a t) [ yes e ↦ e | no n ↦ let top : suc t * s ≤ a * s = mul-le-mul-right s (omega arith) in absurd (omega arith) ]
 
 times-rise : (lower : Bound) (t : ℕ) (p : List ℕ) → Bytes p → key lower < key (finite t p) → time lower ≤ t
 unfolding key idSpace
-times-rise lower t p h l = no-fall (2 ^ 256) (time lower) t (bigEndian 32 (prefix lower)) (bigEndian 32 p) l (bigEndian-small 32 p h)
+times-rise lower t p h l = no-fall (2 ^ 256) (time lower) t (bigEndian 32 (prefix lower)) (bigEndian 32 p) l (bigEndian-small 32 p (bytes-small p h))
 
 -- infinity is above everything
 reach : (s t top x : ℕ) → t < top → x < s → t * s + x < top * s
@@ -38,7 +31,7 @@ reach s t top x h l = let most : suc t * s ≤ top * s = mul-le-mul-right s h in
 
 pub below-infinity : (t : ℕ) (p : List ℕ) → LawfulBound (finite t p) → key (finite t p) < key infinity
 unfolding key idSpace bigEndian
-below-infinity t p h = reach (2 ^ 256) t (2 ^ 64 - 1) (bigEndian 32 p) (omega arith) (bigEndian-small 32 p (h .2))
+below-infinity t p h = reach (2 ^ 256) t (2 ^ 64 - 1) (bigEndian 32 p) (omega arith) (bigEndian-small 32 p (bytes-small p (h .2)))
 
 -- ---- the prefix
 
@@ -70,7 +63,12 @@ Next lower u = (key lower < key u) × LawfulBound u
 bound-there : (lower u : Bound) (rest : List ℕ) → Next lower u → readBound lower (spellBound lower u ++ rest) ≡ read u rest
 unfolding readBound readCoded spellBound
 bound-there lower infinity rest h =
-    rw (append-assoc, exact-varint .reads 0 (spellPrefix [] ++ rest) (omega arith), exact-prefix 0 (omega arith) .reads [] rest (omega arith, tt), lt-ltb (key lower) (key infinity) (h .0))
+    rw (
+      append-assoc,
+      exact-varint .reads 0 (spellPrefix [] ++ rest) (omega arith),
+      exact-prefix 0 (omega arith) .reads [] rest (omega arith, tt),
+      lt-ltb (key lower) (key infinity) (h .0),
+    )
 bound-there lower (finite t p) rest h =
     let same : time lower + (t - time lower) ≡ t = omega (arith, times-rise lower t p (h .1 .2) (h .0)) in
     rw (
@@ -86,7 +84,8 @@ no-bytes : (p : List ℕ) → length p ≤ 0 → p ≡ []
 no-bytes [] h = refl
 no-bytes (b ∷ p) h = absurd (omega arith)
 
-timed-back : (lower : Bound) (code : ℕ) (m n : List ℕ) (u : Bound) (rest : List ℕ) → n ≡ spellVarint code ++ m → Bytes m → readCoded lower code m ≡ read u rest → Spelled (spellBound lower) (Next lower) n u rest
+timed-back : (lower : Bound) (code : ℕ) (m n : List ℕ) (u : Bound) (rest : List ℕ) → n ≡ spellVarint code ++ m → Bytes m → readCoded lower code m ≡ read u rest
+    → Spelled (spellBound lower) (Next lower) n u rest
 unfolding readCoded spellBound
 timed-back lower zero m n u rest w by e =
     got (readPrefix 0 m) _ e λ p m₁ e₁ d.

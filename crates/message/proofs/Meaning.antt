@@ -65,6 +65,7 @@ tidy-tidied [] = tt
 tidy-tidied (r ∷ rs) = prepend-tidied r (tidy rs) (tidy-tidied rs)
 
 -- The writer's bytes read back as the tidied ranges, which are well formed, have no skip to spare and say the same of every place.
-pub meaning : (rs : List Range) → WellFormed rs → (readMessage (writeMessage rs) ≡ read (tidy rs) []) × WellFormed (tidy rs) × Tidied (tidy rs) × ((k : ℕ) → payloadAt (tidy rs) k ≡ payloadAt rs k)
+pub meaning : (rs : List Range) → WellFormed rs
+    → (readMessage (writeMessage rs) ≡ read (tidy rs) []) × WellFormed (tidy rs) × Tidied (tidy rs) × ((k : ℕ) → payloadAt (tidy rs) k ≡ payloadAt rs k)
 unfolding writeMessage
 meaning rs h = (message-there (tidy rs) (tidy-rises start rs h), tidy-rises start rs h, tidy-tidied rs, λ k. tidy-at start rs k h)

@@ -112,12 +112,12 @@ takes lower r h = by (spellRange lower r) (exact-range lower .reads r [] h)
     by [] e = let z = sym (no-range lower) ∙ e in differ (cc)
     by (b ∷ m) e = omega arith
 
-shorter : (lower : Bound) (m : List ℕ) (r : Range) (rest : List ℕ) → Bytes m → readRange lower m ≡ read r rest → length rest < length m
-shorter lower m r rest by e =
+pub range-shorter : (lower : Bound) (m : List ℕ) (r : Range) (rest : List ℕ) → Bytes m → readRange lower m ≡ read r rest → (length rest < length m) × Bytes rest
+range-shorter lower m r rest by e =
     let s = exact-range lower .spells m r rest by e in
-    omega (arith, takes lower r (s .sound), length-append (spellRange lower r) rest, ap length (s .whole))
+    (omega (arith, takes lower r (s .sound), length-append (spellRange lower r) rest, ap length (s .whole)), s .bytes)
 
--- f never decides: any f that is not below the bigEndian of bytes gives the same
+-- f never decides: any f that is not below the number of bytes gives the same
 pub enough : (f g : ℕ) (lower : Bound) (m : List ℕ) → Bytes m → length m ≤ f → length m ≤ g → readRanges f lower m ≡ readRanges g lower m
 unfolding readRanges
 enough zero zero lower m by h k = refl
@@ -128,9 +128,8 @@ enough (suc f) zero lower (b ∷ m) by h k = absurd (omega arith)
 enough (suc f) (suc g) lower [] by h k = refl
 enough (suc f) (suc g) lower (b ∷ m) by h k =
     same-on (readRange lower (b ∷ m)) _ _ λ r rest e.
-    let less = shorter lower (b ∷ m) r rest by e in
-    let bytes = exact-range lower .spells (b ∷ m) r rest by e .bytes in
-    rw (enough f g (upper r) rest bytes (omega arith) (omega arith))
+    let less = range-shorter lower (b ∷ m) r rest by e in
+    rw (enough f g (upper r) rest (less .1) (omega arith) (omega arith))
 
 -- where bytes are left, reading goes on
 goes-on : {A : Type 0} (more : Reader (List A)) (m : List ℕ) → 1 ≤ length m → untilEnd more m ≡ more m
@@ -152,7 +151,8 @@ ranges-there (suc f) lower (range u p ∷ rs) h l =
 rising : (lower : Bound) (r : Range) (rs : List Range) → LawfulRange lower r → Rising (upper r) rs → Rising lower (r ∷ rs)
 rising lower (range u p) rs g h = (g .0, g .1, g .2, h)
 
-pub ranges-back : (f : ℕ) (lower : Bound) (m : List ℕ) (rs : List Range) (rest : List ℕ) → Bytes m → readRanges f lower m ≡ read rs rest → Rising lower rs × (m ≡ spellRanges lower rs) × (rest ≡ [])
+pub ranges-back : (f : ℕ) (lower : Bound) (m : List ℕ) (rs : List Range) (rest : List ℕ) → Bytes m → readRanges f lower m ≡ read rs rest
+    → Rising lower rs × (m ≡ spellRanges lower rs) × (rest ≡ [])
 unfolding readRanges spellRanges
 ranges-back zero lower [] rs rest by e = given (λ (rs : List Range) (rest : List ℕ). Rising lower rs × ([] ≡ spellRanges lower rs) × (rest ≡ [])) e (tt, refl, refl)
 ranges-back (suc f) lower [] rs rest by e = given (λ (rs : List Range) (rest : List ℕ). Rising lower rs × ([] ≡ spellRanges lower rs) × (rest ≡ [])) e (tt, refl, refl)
@@ -180,7 +180,8 @@ message-back (b ∷ m) rs rest by e =
     (r .0, rw (eqb-true b 0x61 (h .0), ← r .1) refl, r .2)
 
 -- A message is read as these ranges just when they are well formed and it is their spelling.
-pub exact : (m : List ℕ) (rs : List Range) → Bytes m → (readMessage m ≡ read rs [] → WellFormed rs × (m ≡ spellMessage rs)) × (WellFormed rs × (m ≡ spellMessage rs) → readMessage m ≡ read rs [])
+pub exact : (m : List ℕ) (rs : List Range) → Bytes m
+    → (readMessage m ≡ read rs [] → WellFormed rs × (m ≡ spellMessage rs)) × (WellFormed rs × (m ≡ spellMessage rs) → readMessage m ≡ read rs [])
 exact m rs by = (λ e. let r = message-back m rs [] by e in (r .0, r .1), λ h. rw (h .1) (message-there rs (h .0)))
 
 -- A message has one reading.

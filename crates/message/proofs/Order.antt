@@ -1,7 +1,7 @@
 -- The order of keys is the order of bounds: time, then the bytes of the prefix from the first.
 use Prim.Native.Nat.{ℕ, zero, suc, _+_, _*_, _-_, _^_, _<_, _≤_}
-use mathlib.Core.Path.{_≡_, refl, sym, ap, _∙_}
-use mathlib.Core.Bool.{Bool, true, false, cond}
+use mathlib.Core.Path.{_≡_, refl, sym, _∙_}
+use mathlib.Core.Bool.{true, false, cond}
 use mathlib.Core.List.{List, [], _∷_}
 use native.Mathlib.Omega.{arith}
 use native.Mathlib.Nat.{pow-suc, mul-le-mul-right}
@@ -11,9 +11,8 @@ use lib.Dec.{ltb, eqb}
 use lib.ListN.{length, take, drop, getD, drop-of-length-le, List·getD-eq-default}
 use lib.Seq.{drop-cons, getD-take, getD-drop}
 use borrow.Author.Tests.{lt-ltb, le-ltb, eq-eqb, ne-eqb}
-use Rattle.message.specs.Bound.{Bound, infinity, finite, bytesBelow, below, bigEndian, idSpace, key}
+use Rattle.message.specs.Bound.{Bound, infinity, finite, bytesBelow, below, time, prefix, bigEndian, idSpace, key}
 use Rattle.message.specs.WellFormed.{Bytes, LawfulBound}
-use Rattle.message.proofs.Exact.{byTest}
 
 -- ---- two digits: the higher one decides
 
@@ -118,6 +117,11 @@ key-infinity : key infinity ≡ (2 ^ 64 - 1) * idSpace + bigEndian 32 []
 unfolding key
 key-infinity = refl
 
+pub key-parts : (b : Bound) → key (finite (time b) (prefix b)) ≡ key b
+unfolding key
+key-parts infinity = refl
+key-parts (finite t p) = refl
+
 -- the time decides, and among equal times the prefix
 module _ (t u : ℕ) (p q : List ℕ) where
   pub key-less : Small p → t < u → ltb (key (finite t p)) (key (finite u q)) ≡ true
@@ -129,7 +133,7 @@ module _ (t u : ℕ) (p q : List ℕ) where
   pub key-same : t ≡ u → ltb (key (finite t p)) (key (finite u q)) ≡ ltb (bigEndian 32 p) (bigEndian 32 q)
   key-same e = rw (key-finite t p, key-finite u q, e) (digit-same (u * idSpace) (bigEndian 32 p) (bigEndian 32 q))
 
--- The order of keys is the order of paper 01.
+-- The order of keys is the order by time, then byte by byte.
 pub keys-order : (a b : Bound) → LawfulBound a → LawfulBound b → ltb (key a) (key b) ≡ below a b
 unfolding below
 keys-order infinity infinity ha hb = le-ltb (key infinity) (key infinity) (omega arith)
@@ -148,7 +152,8 @@ module _ (p q : List ℕ) (i : ℕ) (sp : Small p) (sq : Small q) where
   left : i < 32 → 32 - i ≡ suc (32 - (i + 1))
   left h = omega arith
 
-  step : (n : ℕ) → ltb (bigEndian (suc n) (drop i p)) (bigEndian (suc n) (drop i q)) ≡ ltb (getD p i 0 * 256 ^ n + bigEndian n (drop (i + 1) p)) (getD q i 0 * 256 ^ n + bigEndian n (drop (i + 1) q))
+  step : (n : ℕ)
+      → ltb (bigEndian (suc n) (drop i p)) (bigEndian (suc n) (drop i q)) ≡ ltb (getD p i 0 * 256 ^ n + bigEndian n (drop (i + 1) p)) (getD q i 0 * 256 ^ n + bigEndian n (drop (i + 1) q))
   step n = rw (bigEndian-step n p i, bigEndian-step n q i) refl
 
   tail : (n : ℕ) (l : List ℕ) → Small l → bigEndian n (drop (i + 1) l) < 256 ^ n

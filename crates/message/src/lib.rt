@@ -1,6 +1,5 @@
 // The message layer, first crate: the definitions stand in specs/, the laws of the format in proofs/, and here the forms in which code
 // holds what a message says. The crates `reader` and `writer` are built on it.
-ghost use Prim.Native.Nat.{_*_, _+_};
 ghost use mathlib.Core.Path.{_≡_};
 ghost use mathlib.Core.List.{[]};
 ghost use lib.Dec.{ltb};

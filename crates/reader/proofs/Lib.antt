@@ -4,6 +4,7 @@
 pub mod Steps
 pub mod ReadingVarints
 pub mod ReadingBounds
+pub mod Listing
 pub mod ReadingPayloads
 pub mod ReadingRanges
 pub mod ReadingMessages

@@ -11,6 +11,7 @@ use Rattle.message.specs.Reader.{Outcome, read, refused, after, give, judge, re
 use Rattle.message.specs.Bound.{Bound, infinity, finite, time, prefix, key, above, readPrefix, readCoded}
 use Rattle.message.specs.Code.{boundOf}
 use Rattle.message.specs.declared.Bound as code
+use Rattle.message.proofs.Forms.{time-alone, key-is}
 
 -- ---- the prefix behind its length n
 
@@ -44,25 +45,13 @@ judged u rest true = refl
 judged u rest false = refl
 
 module _ (lower : code.Bound) (beside : List ℕ) (t : ℕ) (et : t ≡ time (boundOf lower [])) where
-  same-time : (b : code.Bound) → time (boundOf b beside) ≡ time (boundOf b [])
-  same-time code.Bound.Infinity = refl
-  same-time (code.Bound.At u len) = refl
-
   pub lower-time : time (boundOf lower beside) ≡ t
-  lower-time = same-time lower ∙ sym et
-
-  lower-key : (p : List ℕ) → p ≡ prefix (boundOf lower beside) → key (finite t p) ≡ key (boundOf lower beside)
-  unfolding key
-  lower-key p ep = rw (ep, ← lower-time) refl
+  lower-time = time-alone lower beside [] ∙ sym et
 
   pub compared : (p : List ℕ) → p ≡ prefix (boundOf lower beside) → (u : Bound) (rest : List ℕ) {k : ℕ} {r : Bool} {o : Bound → Outcome Bound}
       → r ≡ ltb (key (finite t p)) k → k ≡ key u → ((l : Bound) → time l ≡ t → after (read u rest) (above l) ≡ o l) → cond r (read u rest) (refused 9) ≡ o (boundOf lower beside)
-  compared p ep u rest f h e = rw (f, lower-key p ep, h) (judged u rest (ltb (key (boundOf lower beside)) (key u)) ∙ e (boundOf lower beside) lower-time)
+  compared p ep u rest f h e = rw (f, key-is lower beside t p et ep, h) (judged u rest (ltb (key (boundOf lower beside)) (key u)) ∙ e (boundOf lower beside) lower-time)
 
--- infinity as the code compares it, and a prefix as it lends it
-pub infinity-key : key (finite (2 ^ 64 - 1) []) ≡ key infinity
-unfolding key
-infinity-key = refl
-
+-- a prefix as the code lends it
 pub part-key : (t at len : ℕ) (m : List ℕ) → key (finite t (take (at + len - at) (drop at m))) ≡ key (finite t (take len (drop at m)))
 part-key t at len m = let e : at + len - at ≡ len = omega arith in rw e refl

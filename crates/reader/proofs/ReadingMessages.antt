@@ -1,20 +1,18 @@
 -- Reading range by range comes to the reading of the whole message.
 use Prim.Native.Nat.{ℕ, zero, suc, _+_, _-_, _<_, _≤_}
 use mathlib.Core.Path.{_≡_, refl, sym, ap, _∙_}
-use mathlib.Core.List.{List, [], _∷_, _++_}
+use mathlib.Core.List.{List, [], _∷_}
 use native.Mathlib.Omega.{arith}
-use lib.ListN.{length, drop, getD, length-drop, length-append, drop-of-length-le}
+use lib.ListN.{length, drop, getD, length-drop, drop-of-length-le}
 use borrow.Author.Tests.{eq-eqb, ne-eqb}
 use Rattle.message.specs.Reader.{Outcome, read, refused, after, give}
-use Rattle.message.specs.Varint.{readVarint}
-use Rattle.message.specs.Bound.{Bound, start, readBound}
-use Rattle.message.specs.Message.{Range, upper, readRange, readRanges, readMessage, spellRange}
+use Rattle.message.specs.Bound.{Bound, start}
+use Rattle.message.specs.Message.{Range, upper, readRange, readRanges, readMessage}
 use Rattle.message.specs.WellFormed.{Bytes}
 use Rattle.message.specs.Code.{numberOf, boundOf, rangeOf}
 use Rattle.message.specs.declared.Refusal.{Refusal}
-use Rattle.message.proofs.Exact.{differ}
 use Rattle.message.proofs.Order.{Small, small-bytes, small-drop}
-use Rattle.message.proofs.Messages.{exact-range, enough}
+use Rattle.message.proofs.Messages.{range-shorter, enough}
 use Rattle.reader.specs.Answers.{foundRange, rangeRead, RangePlaced, counted}
 use Rattle.reader.specs.declared.range.Found.{Found}
 use Rattle.reader.specs.declared.range.RangeCursor.{RangeCursor}
@@ -33,22 +31,6 @@ more-one : (n : ℕ) (r : Range) (o : Outcome (List Range)) → more n (after o 
 more-one n r (read rs rest) = let e : n + length (r ∷ rs) ≡ n + 1 + length rs = omega arith in ap (λ n. read n rest) e
 more-one n r (refused k) = refl
 
--- ---- a range takes a byte
-
-no-range : (lower : Bound) → readRange lower [] ≡ refused 7
-unfolding readRange readBound readVarint
-no-range lower = refl
-
-some : (lower : Bound) (r : Range) (s : List ℕ) → readRange lower (s ++ []) ≡ read r [] → 1 ≤ length s
-some lower r [] e = let z = sym (no-range lower) ∙ e in differ (cc)
-some lower r (b ∷ s) e = omega arith
-
-shorter : (lower : Bound) (l : List ℕ) (r : Range) (rest : List ℕ) → Small l → read r rest ≡ readRange lower l → (length rest < length l) × Bytes rest
-shorter lower l r rest h e =
-    let s = exact-range lower .spells l r rest (small-bytes l h) (sym e) in
-    let one = some lower r (spellRange lower r) (exact-range lower .reads r [] (s .sound)) in
-    (omega (arith, one, length-append (spellRange lower r) rest, ap length (s .whole)), s .bytes)
-
 -- ---- one range more; f is enough for the bytes l
 
 refused-at : (f n k : ℕ) (lower : Bound) (l : List ℕ) → refused k ≡ readRange lower l → 1 ≤ length l → length l ≤ f → more n (readRanges f lower l) ≡ refused k
@@ -57,13 +39,13 @@ refused-at f n k lower [] e h u = absurd (omega arith)
 refused-at zero n k lower (b ∷ l) e h u = absurd (omega arith)
 refused-at (suc f) n k lower (b ∷ l) e h u = rw (← e) refl
 
-read-at : (f n : ℕ) (lower : Bound) (l : List ℕ) (r : Range) (rest : List ℕ) → Small l → read r rest ≡ readRange lower l → 1 ≤ length l → length l ≤ f
+read-at : (f n : ℕ) (lower : Bound) (l : List ℕ) (r : Range) (rest : List ℕ) → Bytes l → read r rest ≡ readRange lower l → 1 ≤ length l → length l ≤ f
     → more n (readRanges f lower l) ≡ more (n + 1) (readRanges f (upper r) rest)
 unfolding readRanges
-read-at f n lower [] r rest s e h u = absurd (omega arith)
-read-at zero n lower (b ∷ l) r rest s e h u = absurd (omega arith)
-read-at (suc f) n lower (b ∷ l) r rest s e h u =
-    let less = shorter lower (b ∷ l) r rest s e in
+read-at f n lower [] r rest by e h u = absurd (omega arith)
+read-at zero n lower (b ∷ l) r rest by e h u = absurd (omega arith)
+read-at (suc f) n lower (b ∷ l) r rest by e h u =
+    let less = range-shorter lower (b ∷ l) r rest by (sym e) in
     let last : more n (readRanges (suc f) lower (b ∷ l)) ≡ more (n + 1) (readRanges f (upper r) rest) = rw (← e) (more-one n r (readRanges f (upper r) rest)) in
     last ∙ ap (more (n + 1)) (enough f (suc f) (upper r) rest (less .1) (omega arith) (omega arith))
 
@@ -111,11 +93,11 @@ module _ (m : List ℕ) (c : RangeCursor) (n : ℕ) (r : RangeRead) (inside : c 
       → (length m - r .next .at < length m - c .at)
       × (more n (readRanges (length m) (lowerOf c) (drop (c .at) m)) ≡ more (n + 1) (readRanges (length m) (lowerOf (r .next)) (drop (r .next .at) m)))
   check-on s q h =
-      let small = small-drop (c .at) m s in
+      let bytes = small-bytes (drop (c .at) m) (small-drop (c .at) m s) in
       let p = rw h at q in
       let same : lowerOf (r .next) ≡ boundOf (r .range .bound) (r .range .prefix) = rw (p .3, p .4) refl in
-      let less = shorter (lowerOf c) (drop (c .at) m) (rangeOf (r .range) m) (drop (r .next .at) m) small (found Found.Range h) in (
+      let less = range-shorter (lowerOf c) (drop (c .at) m) (rangeOf (r .range) m) (drop (r .next .at) m) bytes (sym (found Found.Range h)) in (
         omega (arith, length-drop (c .at) m, length-drop (r .next .at) m),
-        read-at (length m) n (lowerOf c) (drop (c .at) m) (rangeOf (r .range) m) (drop (r .next .at) m) small (found Found.Range h) (left .0) (left .1)
+        read-at (length m) n (lowerOf c) (drop (c .at) m) (rangeOf (r .range) m) (drop (r .next .at) m) bytes (found Found.Range h) (left .0) (left .1)
             ∙ ap (λ b. more (n + 1) (readRanges (length m) b (drop (r .next .at) m))) (sym same),
       )

@@ -12,7 +12,6 @@ use Rattle.message.specs.declared.Refusal.{Refusal}
 use Rattle.message.specs.declared.Bound.{Bound}
 use Rattle.message.specs.declared.Payload.{Payload}
 use Rattle.reader.specs.declared.varint.VarintRead.{VarintRead}
-use Rattle.reader.specs.declared.bound.PrefixRead.{PrefixRead}
 use Rattle.reader.specs.declared.bound.BoundRead.{BoundRead}
 use Rattle.reader.specs.declared.payload.PayloadRead.{PayloadRead}
 use Rattle.reader.specs.declared.range.Found.{Found}
@@ -31,15 +30,6 @@ VarintPlaced m (VarintRead.Value v c) = c .at ≤ length m
 VarintPlaced m (VarintRead.Refused k) = Unit {0}
 
 -- ---- bounds
-
-abbrev pub prefixRead : List ℕ → PrefixRead → Outcome (List ℕ)
-prefixRead m (PrefixRead.Prefix at len c) = read (take len (drop at m)) (drop (c .at) m)
-prefixRead m (PrefixRead.Refused k) = refused (numberOf k)
-
--- the prefix stands before the cursor
-abbrev pub PrefixPlaced : ℕ → List ℕ → PrefixRead → Type 0
-PrefixPlaced most m (PrefixRead.Prefix at len c) = (at + len ≡ c .at) × (c .at ≤ length m) × (len ≤ most)
-PrefixPlaced most m (PrefixRead.Refused k) = Unit {0}
 
 abbrev pub boundRead : List ℕ → BoundRead → Outcome B.Bound
 boundRead m (BoundRead.Infinity c) = read B.infinity (drop (c .at) m)

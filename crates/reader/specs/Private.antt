@@ -1,13 +1,25 @@
 -- For contracts of private functions alone.
-use Prim.Native.Nat.{ℕ}
+use Prim.Native.Nat.{ℕ, _+_, _≤_}
 use mathlib.Core.Path.{_≡_}
 use mathlib.Core.List.{List}
-use lib.ListN.{drop}
-use Rattle.message.specs.Reader.{Outcome, after, give}
+use lib.ListN.{length, take, drop}
+use Rattle.message.specs.Reader.{Outcome, read, refused, after, give}
+use Rattle.message.specs.Code.{numberOf}
 use Rattle.message.specs.Bound.{Bound, time, above, readBound}
 use Rattle.message.specs.Message.{Payload, Range, range}
 use Rattle.reader.specs.Answers.{boundRead}
+use Rattle.reader.specs.declared.bound.PrefixRead.{PrefixRead}
 use Rattle.reader.specs.declared.bound.BoundRead.{BoundRead}
+
+-- a prefix that was read, its place and its length
+abbrev pub prefixRead : List ℕ → PrefixRead → Outcome (List ℕ)
+prefixRead m (PrefixRead.Prefix at len c) = read (take len (drop at m)) (drop (c .at) m)
+prefixRead m (PrefixRead.Refused k) = refused (numberOf k)
+
+-- the prefix stands before the cursor
+abbrev pub PrefixPlaced : ℕ → List ℕ → PrefixRead → Type 0
+PrefixPlaced most m (PrefixRead.Prefix at len c) = (at + len ≡ c .at) × (c .at ≤ length m) × (len ≤ most)
+PrefixPlaced most m (PrefixRead.Refused k) = Unit {0}
 
 -- compared with any lower bound of the time `last`, it is the bound that is read behind it
 abbrev pub BeforeOrder : ℕ → List ℕ → ℕ → BoundRead → Type 0

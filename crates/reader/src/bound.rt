@@ -8,11 +8,11 @@ ghost use mathlib.Core.Path.{_≡_};
 ghost use lib.ListN.{drop};
 ghost use Rattle.message.specs.Bound.{readPrefix, readBound};
 ghost use Rattle.message.specs.Code.{boundOf};
-ghost use Rattle.reader.specs.Answers.{prefixRead, boundRead, PrefixPlaced, BoundPlaced};
-ghost use Rattle.reader.specs.Private.{BeforeOrder};
+ghost use Rattle.reader.specs.Answers.{boundRead, BoundPlaced};
+ghost use Rattle.reader.specs.Private.{prefixRead, PrefixPlaced, BeforeOrder};
 
 // The place and the length of a prefix.
-pub enum PrefixRead {
+pub(crate) enum PrefixRead {
     Prefix { at: usize, len: usize, next: Cursor },
     Refused { refusal: Refusal },
 }
@@ -48,11 +48,6 @@ impl Cursor {
                 }
                 let at = next.at;
                 let len = value as usize;
-                if m.len() < at {
-                    return PrefixRead::Refused {
-                        refusal: Refusal::Truncated,
-                    };
-                }
                 if m.len() - at < len {
                     return PrefixRead::Refused {
                         refusal: Refusal::Truncated,

@@ -41,11 +41,6 @@ impl Cursor {
             VarintRead::Refused { refusal } => PayloadRead::Refused { refusal },
             VarintRead::Value { value, next } => {
                 let at = next.at;
-                if m.len() < at {
-                    return PayloadRead::Refused {
-                        refusal: Refusal::Truncated,
-                    };
-                }
                 let room = (m.len() - at) / 32;
                 let count = value as usize;
                 if room < count {

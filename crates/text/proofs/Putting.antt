@@ -1,10 +1,9 @@
 -- Texts written one behind the other.
 use Prim.Native.Nat.{ℕ, zero, suc, _+_, _-_, _*_, _/_, _%_, _^_, _<_, _≤_}
 use mathlib.Core.Path.{_≡_, refl, sym, ap, _∙_}
-use mathlib.Core.Bool.{cond}
 use mathlib.Core.List.{List, [], _∷_, _++_, append-nil, append-assoc}
 use native.Mathlib.Omega.{arith}
-use native.Mathlib.Nat.{div-lt-iff-lt-mul, le-div-iff-mul-le, pow-suc}
+use native.Mathlib.Nat.{div-lt-iff-lt-mul, pow-suc}
 use native.Mathlib.Numerals.{add-one}
 use native.Mathlib.Decide.{decLe}
 use lib.Dec.{lit<}
@@ -12,9 +11,9 @@ use lib.ListN.{length, take, drop, set, getD, replicate, length-append, length-d
 use lib.Seq.{drop-cons, drop-drop, take-suc, set-at, append-snoc, take-all, take-length, take-append-seam, drop-append-seam}
 use borrow.Author.Tests.{lt-ltb, le-ltb}
 use Rattle.io.specs.Digits.{digits, Fewest}
-use Rattle.message.specs.Bound.{Bound, prefix}
-use Rattle.message.specs.Message.{Payload, Range, range}
-use Rattle.message.specs.Code.{boundOf, idsIn}
+use Rattle.message.specs.Bound.{prefix}
+use Rattle.message.specs.Message.{Payload, range}
+use Rattle.message.specs.Code.{boundOf}
 use Rattle.message.specs.declared.Bound as Code
 use Rattle.text.specs.Text.{digit, space, newline, dash, decimalUpTo, decimal, hex, timeField, prefixField, modeField, payloadField, line, held}
 use Rattle.text.specs.Private.{put, spaced, payloadFields}
@@ -27,10 +26,6 @@ length-put t out h = length-append t (drop (length t) out) ∙ rw (length-drop (
 pub put-front : (t out : List ℕ) (n : ℕ) → n ≡ length t → (take n (put t out) ≡ t) × (drop n (put t out) ≡ drop n out)
 unfolding put
 put-front t out n e = rw e (take-append-seam t (drop (length t) out), drop-append-seam t (drop (length t) out))
-
-put-nothing : (out : List ℕ) → put [] out ≡ out
-unfolding put
-put-nothing out = refl
 
 pub put-none : (out : List ℕ) → put (hex []) out ≡ out
 unfolding put hex
@@ -50,15 +45,23 @@ put-one t out o₁ n x e h p =
     ∙ sym (append-snoc t x (drop (suc (length t)) out))
     ∙ ap (λ (k : ℕ). (t ++ (x ∷ [])) ++ drop k out) (sym (length-append t (x ∷ []) ∙ add-one (length t))))
 
--- s is put into the rest of o₁ behind t: `last` is what the rest, `&mut o₁[n..]`, then holds
-pub put-behind : (t s out o₁ last : List ℕ) (n : ℕ) → n ≡ length t → length t ≤ length out → o₁ ≡ put t out → last ≡ put s (take (length o₁ - n) (drop n o₁))
-    → take n o₁ ++ (last ++ drop (length o₁ - n) (drop n o₁)) ≡ put (t ++ s) out
+-- what `&mut out[n..]` holds
+abbrev pub rest : ℕ → List ℕ → List ℕ
+rest n out = take (length out - n) (drop n out)
+
+-- `out` when that part holds `last`
+abbrev pub joined : ℕ → List ℕ → List ℕ → List ℕ
+joined n out last = take n out ++ (last ++ drop (length out - n) (drop n out))
+
+-- s is put into the rest of o₁ behind t
+pub put-behind : (t s out o₁ last : List ℕ) (n : ℕ) → n ≡ length t → length t ≤ length out → o₁ ≡ put t out → last ≡ put s (rest n o₁)
+    → joined n o₁ last ≡ put (t ++ s) out
 unfolding put
 put-behind t s out o₁ last n e h p q =
     let front = put-front t out n e in
     let left : length (drop n o₁) ≤ length o₁ - n = rw (length-drop n o₁) (omega arith) in
     let none : drop (length o₁ - n) (drop n o₁) ≡ [] = drop-of-length-le (drop n o₁) left in
-    let mid : take (length o₁ - n) (drop n o₁) ≡ drop (length t) out = take-all (length o₁ - n) (drop n o₁) left ∙ ap (drop n) p ∙ front .1 ∙ ap (λ (k : ℕ). drop k out) e in
+    let mid : rest n o₁ ≡ drop (length t) out = take-all (length o₁ - n) (drop n o₁) left ∙ ap (drop n) p ∙ front .1 ∙ ap (λ (k : ℕ). drop k out) e in
     let part : last ≡ s ++ drop (length s) (drop (length t) out) = q ∙ ap (λ (l : List ℕ). s ++ drop (length s) l) mid in
     let first : take n o₁ ≡ t = ap (take n) p ∙ front .0 in
     rw (first, none, part, append-nil)
@@ -66,7 +69,7 @@ put-behind t s out o₁ last n e h p q =
     ∙ ap (λ (l : List ℕ). (t ++ s) ++ l) (drop-drop (length s) (length t) out ∙ ap (λ (k : ℕ). drop k out) (sym (length-append t s))))
 
 -- the room that a part has
-pub length-part : (o : List ℕ) (n : ℕ) → length (take (length o - n) (drop n o)) ≡ length o - n
+pub length-part : (o : List ℕ) (n : ℕ) → length (rest n o) ≡ length o - n
 length-part o n = ap length (take-all (length o - n) (drop n o) (rw (length-drop n o) (omega arith))) ∙ length-drop n o
 
 -- a part that begins behind the end, and one that ends there
@@ -119,9 +122,10 @@ fewest-decimal (suc (suc k)) n (suc f) h l =
     let less : suc (suc k) - 1 ≡ suc k = omega arith in
     let top : 10 * 10 ^ k ≤ n = omega (arith, rw (less, pow-suc) at (h .2 (omega arith))) in
     let some : 1 ≤ 10 ^ k = pow-some k in
+    let below : n / 10 < 10 ^ suc k = div-lt-iff-lt-mul {k = 10} {x = n} {y = 10 ^ suc k} (lit< tt) .1 (rw pow-suc at (h .1)) in
     rw (le-ltb n 10 (omega arith))
     (ap (λ (t : List ℕ). t ++ (digit (n % 10) ∷ []))
-    (fewest-decimal (suc k) (n / 10) f (omega arith, div-lt-iff-lt-mul {k = 10} {x = n} {y = 10 ^ suc k} (lit< tt) .1 (rw pow-suc at (h .1)), λ j. let e : suc k - 1 ≡ k = omega arith in rw e (le-tenth k n top)) (omega arith)))
+    (fewest-decimal (suc k) (n / 10) f (omega arith, below, λ j. let e : suc k - 1 ≡ k = omega arith in rw e (le-tenth k n top)) (omega arith)))
   where
     pow-some : (k : ℕ) → 1 ≤ 10 ^ k
     pow-some zero = omega arith
@@ -157,8 +161,7 @@ put-end t out o₁ k x e h p = (sym (length-append t (x ∷ []) ∙ ap (λ (n : 
 
 -- a word, copied, and a text put behind it
 pub word-put : (w t out o₁ last : List ℕ) (r : ℕ) → length w ≤ length out → o₁ ≡ take (length w) w ++ drop (length w) out → r ≡ length t
-    → last ≡ put t (take (length o₁ - length w) (drop (length w) o₁))
-    → (length w + r ≡ length (w ++ t)) × (take (length w) o₁ ++ (last ++ drop (length o₁ - length w) (drop (length w) o₁)) ≡ put (w ++ t) out)
+    → last ≡ put t (rest (length w) o₁) → (length w + r ≡ length (w ++ t)) × (joined (length w) o₁ last ≡ put (w ++ t) out)
 word-put w t out o₁ last r h p e q = (ap (λ (k : ℕ). length w + k) e ∙ sym (length-append w t), put-behind w t out o₁ last (length w) refl h (p ∙ put-copy w out) q)
 
 -- `fingerprint`, `ids` and `refused`, each with a space
@@ -178,11 +181,6 @@ at-most (suc n) (x ∷ l) = omega (arith, at-most n l)
 
 pub part-short : (n : ℕ) (l f : List ℕ) → f ≡ take n l → length f ≤ n
 part-short n l f e = rw e (at-most n l)
-
-pub ids-length : (n : ℕ) (l : List ℕ) → length (idsIn n l) ≡ n
-unfolding idsIn
-ids-length zero l = refl
-ids-length (suc n) l = ap suc (ids-length n (drop 32 l))
 
 pub no-prefix : (p : List ℕ) → length p ≡ 0 → spaced (prefixField p) ≡ dash ∷ space ∷ []
 unfolding spaced prefixField
@@ -220,11 +218,8 @@ line-is b p y = rw (← time-any b p) (fields (timeField (boundOf b p)) (prefixF
 
 -- three texts, each put into the rest behind those before it
 pub three-put : (t p q out o₁ l₂ l₃ : List ℕ) (a b c : ℕ) → a ≡ length t → b ≡ length p → c ≡ length q → a + b ≤ length out → o₁ ≡ put t out
-    → l₂ ≡ put p (take (length o₁ - a) (drop a o₁))
-    → l₃ ≡ put q (take (length (take a o₁ ++ (l₂ ++ drop (length o₁ - a) (drop a o₁))) - (a + b)) (drop (a + b) (take a o₁ ++ (l₂ ++ drop (length o₁ - a) (drop a o₁)))))
-    → (a + b + c ≡ length ((t ++ p) ++ q))
-    × (take (a + b) (take a o₁ ++ (l₂ ++ drop (length o₁ - a) (drop a o₁))) ++ (l₃ ++ drop (length (take a o₁ ++ (l₂ ++ drop (length o₁ - a) (drop a o₁))) - (a + b)) (drop (a + b) (take a o₁ ++ (l₂ ++ drop (length o₁ - a) (drop a o₁)))))
-    ≡ put ((t ++ p) ++ q) out)
+    → l₂ ≡ put p (rest a o₁) → l₃ ≡ put q (rest (a + b) (joined a o₁ l₂))
+    → (a + b + c ≡ length ((t ++ p) ++ q)) × (joined (a + b) (joined a o₁ l₂) l₃ ≡ put ((t ++ p) ++ q) out)
 three-put t p q out o₁ l₂ l₃ a b c ea eb ec h e f g =
     let two = length-append t p in
     let all = length-append (t ++ p) q in

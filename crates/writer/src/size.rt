@@ -5,7 +5,6 @@ use message::Payload;
 ghost use Prim.Native.Nat.{_+_, _≤_};
 ghost use mathlib.Core.Path.{_≡_};
 ghost use lib.ListN.{length};
-ghost use Rattle.message.specs.Code.{lengthOf};
 ghost use Rattle.writer.specs.Writing.{lawful, inside};
 ghost use Rattle.writer.specs.Private.{skips, codeOf, boundSize, payloadSize, Lawful, Inside};
 

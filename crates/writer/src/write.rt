@@ -18,7 +18,7 @@ ghost use mathlib.Core.List.{List, [], _∷_};
 ghost use lib.Dec.{leb};
 ghost use lib.ListN.{length};
 ghost use Rattle.message.specs.Code.{rangeOf};
-ghost use Rattle.writer.specs.Writing.{taken, verdictOf, judge, room, lay, started, pendingBytes, moreBytes, verdict, moved, next, outAfter};
+ghost use Rattle.writer.specs.Writing.{taken, verdictOf, judge, room, lay, started, pendingBytes, moreBytes, boundsFit, verdict, moved, next, outAfter};
 ghost use Rattle.writer.specs.Private.{skips, Lawful, Inside};
 
 // The place behind the bytes already written, the bound handed over last, whether it is that of a skip not written yet, and then the time
@@ -108,32 +108,35 @@ impl Writer {
         a + b + c
     }
 
+    // Whether refusal 9 meets neither bound, and the range's bound is above the one before it.
+    fn bounds_fit(self, range: Range) -> bool
+        ensures { λ r. ⌜ r ≡ boundsFit self range ⌝ }
+    {
+        let lower = self.bound;
+        let lower_beside = self.prefix;
+        let bound = range.bound;
+        let beside = range.prefix;
+        if !is_lawful(lower) {
+            return false;
+        }
+        if !is_lawful(bound) {
+            return false;
+        }
+        below(
+            lower.time(),
+            lower.prefix(&lower_beside),
+            bound.time(),
+            bound.prefix(&beside),
+        )
+    }
+
     // The refusals of one range more, a message having at most `size` bytes.
     fn judge(self, size: usize, range: Range, source: &[u8]) -> Written
         ensures { λ r. ⌜ verdictOf r ≡ verdict size self range (now (source .entry)) ⌝ }
     {
         let at = self.at;
-        let lower = self.bound;
-        let lower_beside = self.prefix;
-        let bound = range.bound;
-        let beside = range.prefix;
         let payload = range.payload;
-        if !is_lawful(lower) {
-            return Written::Refused {
-                refusal: Refusal::BadBound,
-            };
-        }
-        if !is_lawful(bound) {
-            return Written::Refused {
-                refusal: Refusal::BadBound,
-            };
-        }
-        if !below(
-            lower.time(),
-            lower.prefix(&lower_beside),
-            bound.time(),
-            bound.prefix(&beside),
-        ) {
+        if !self.bounds_fit(range) {
             return Written::Refused {
                 refusal: Refusal::BadBound,
             };

@@ -1,4 +1,4 @@
-use mathlib.Core.Path.{_≡_, refl, sym, ap, _∙_}
+-- `text::put_refusal` meets its contract.
 use native.Mathlib.Omega.{arith}
 use mathlib.Core.List.{[], _∷_, _++_}
 use Rattle.text.specs.Text.{newline, decimal, refusalLine}
@@ -6,61 +6,21 @@ use Rattle.text.proofs.Putting.{refusedWord, word-put}
 use borrow.Author.Needs.{needs}
 use Rattle.text.proofs.put_refusal.Statement.{statement}
 use Rattle.text.proofs.put_refusal.Tie as tie
-use Rattle.text.proofs.put_refusal.Reads as reads
-use Rattle.text.proofs.put_refusal.Lts as lts
-use Rattle.bytes.proofs.copy.Reads as copy-reads
-use Rattle.text.proofs.put_decimal.Reads as put-decimal-reads
 
--- src/lib.rt:179:17
-slice-aggregate-copy : tie.Need-slice-aggregate-copy
-slice-aggregate-copy c = search needs
-
--- src/lib.rt:179:5
-copy-requires : tie.Need-copy-requires
-copy-requires c κs = search needs
-
--- src/lib.rt:180:21
-sub-put-decimal : tie.Need-sub-put-decimal
-sub-put-decimal c = search needs
-
--- src/lib.rt:180:21
-part-put-decimal-start : tie.Need-part-put-decimal-start
-part-put-decimal-start c = search needs
-
--- src/lib.rt:180:21
-part-put-decimal-end : tie.Need-part-put-decimal-end
-part-put-decimal-end c = search needs
-
--- src/lib.rt:180:9
-put-decimal-requires : tie.Need-put-decimal-requires
-put-decimal-requires c κs = search needs
-
--- src/lib.rt:180:5
-add-result : tie.Need-add-result
-add-result c = search needs
-
--- src/lib.rt:174:1
-same-length : tie.Need-same-length
-same-length c = search needs
-
--- src/lib.rt:174:1
 returns : tie.Need-returns
 unfolding refusalLine
 returns c =
     let h = c .before .before .put-decimal in
-    let z = word-put refusedWord (decimal (c .before .before .before .before .before .before .before .before .before .before .args .n) ++ (newline ∷ [])) (c .before .before .before .before .before .before .before .before .before .before .args .out .now) (c .before .before .before .before .before .before .copy .last .1 .0) (h .last .0) (h .result) (omega (arith, c .before .before .before .before .before .before .before .before .before .before .pre)) (c .before .before .before .before .before .before .copy .ensures .1) (h .ensures .0 .0) (h .ensures .1) in
+    let c₆ = c .before .before .before .before .before .before in
+    let w = c₆ .copy in
+    let s = c₆ .before .before .before .before in
+    let field = decimal (s .args .n) ++ (newline ∷ []) in
+    let z = word-put refusedWord field (s .args .out .now) (w .last .1 .0) (h .last .0) (h .result) (omega (arith, s .pre)) (w .ensures .1) (h .ensures .0 .0) (h .ensures .1) in
     ((z .0, omega (arith, h .ensures .0 .1)), z .1)
 
 pub put-refusal-spec : {M : Type 1} → statement M
 put-refusal-spec =
     tie.close
     (tie.spec
-    slice-aggregate-copy
-    copy-requires
-    sub-put-decimal
-    part-put-decimal-start
-    part-put-decimal-end
-    put-decimal-requires
-    add-result
-    same-length
-    returns)
+    (λ c. search needs) (λ c κs. search needs) (λ c. search needs) (λ c. search needs) (λ c. search needs) (λ c κs. search needs) (λ c. search needs)
+    (λ c. search needs) returns)

@@ -1,11 +1,9 @@
+-- `reader::range::RangeCursor::refuse` meets its contract.
 use mathlib.Core.Path.{refl}
 use Rattle.reader.specs.Answers.{refusedAt}
 use Rattle.reader.proofs.range.RangeCursor.refuse.Statement.{statement}
 use Rattle.reader.proofs.range.RangeCursor.refuse.Tie as tie
-use Rattle.reader.proofs.range.RangeCursor.refuse.Reads as reads
-use Rattle.reader.proofs.range.RangeCursor.refuse.Lts as lts
 
--- src/range.rt:59:5
 returns : tie.Need-returns
 unfolding refusedAt
 returns c = refl

@@ -23,6 +23,7 @@ abbrev pub boundOf : Bound → List ℕ → B.Bound
 boundOf Bound.Infinity p = B.infinity
 boundOf (Bound.At t len) p = B.finite t (take len p)
 
+-- the prefix length that a bound says it has
 abbrev pub lengthOf : Bound → ℕ
 lengthOf Bound.Infinity = 0
 lengthOf (Bound.At t len) = len
@@ -38,5 +39,6 @@ payloadOf Payload.Skip m = M.skip
 payloadOf (Payload.Fingerprint at) m = M.fingerprint (take 16 (drop at m))
 payloadOf (Payload.Ids count at) m = M.ids (idsIn count (drop at m))
 
+-- a range and the bytes that hold its payload
 abbrev pub rangeOf : Range → List ℕ → M.Range
 rangeOf r m = M.range (boundOf (r .bound) (r .prefix)) (payloadOf (r .payload) m)

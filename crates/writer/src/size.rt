@@ -6,7 +6,7 @@ ghost use Prim.Native.Nat.{_+_, _≤_};
 ghost use mathlib.Core.Path.{_≡_};
 ghost use lib.ListN.{length};
 ghost use Rattle.writer.specs.Writing.{lawful, inside};
-ghost use Rattle.writer.specs.Private.{skips, codeOf, boundSize, payloadSize, Lawful, Inside};
+ghost use Rattle.writer.specs.Private.{codeOf, boundSize, payloadSize, Lawful, Inside};
 
 // Whether a bound meets refusal 9, save for the order.
 pub(crate) fn is_lawful(bound: Bound) -> bool
@@ -41,16 +41,6 @@ pub(crate) fn is_inside(payload: Payload, source: &[u8]) -> bool
             }
             count <= (source.len() - at) / 32
         }
-    }
-}
-
-pub(crate) fn is_skip(payload: Payload) -> bool
-    ensures { λ r. ⌜ r ≡ skips payload ⌝ }
-{
-    match payload {
-        Payload::Skip => true,
-        Payload::Fingerprint { at: _ } => false,
-        Payload::Ids { count: _, at: _ } => false,
     }
 }
 

@@ -3,7 +3,6 @@ use crate::part::write_range;
 use crate::size::bound_size;
 use crate::size::is_inside;
 use crate::size::is_lawful;
-use crate::size::is_skip;
 use crate::size::payload_size;
 use crate::varint::Written;
 use message::Bound;
@@ -35,6 +34,17 @@ pub struct Writer {
 pub struct Write {
     pub written: Written,
     pub next: Writer,
+}
+
+// Whether a payload is a skip.
+fn is_skip(payload: Payload) -> bool
+    ensures { λ r. ⌜ r ≡ skips payload ⌝ }
+{
+    match payload {
+        Payload::Skip => true,
+        Payload::Fingerprint { at: _ } => false,
+        Payload::Ids { count: _, at: _ } => false,
+    }
 }
 
 impl Writer {

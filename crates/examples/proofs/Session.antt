@@ -31,11 +31,11 @@ two-replies = refl
 
 pub three-replies : Results after₃
 unfolding has inside between isSkip skipsOnly prepend tidy sizes split innerBound fingerprintRanges cut eachRange someList equalsOwn treat answer opening nextQuery unlisted unowned marks needs afterTake takes step exchange
-three-replies = record { done = refl; marked = refl; needed = refl }
+three-replies = record { done = refl; marked = refl; needed = refl; not-needed = refl }
 
 pub late-replies : Results late
 unfolding has inside between isSkip skipsOnly prepend tidy sizes split innerBound fingerprintRanges cut eachRange someList equalsOwn treat answer opening nextQuery unlisted unowned marks needs afterTake takes step exchange
-late-replies = record { done = refl; marked = refl; needed = refl }
+late-replies = record { done = refl; marked = refl; needed = refl; not-needed = refl }
 
 -- ---- whatever the order of replies
 
@@ -71,7 +71,11 @@ one-time (i ∷ A) B h j k a b e =
 -- the theorem's hypotheses can be met
 pub any-order : (es : List Event) → OwedAfter toy ours theirs 2 es
 unfolding allAlone alone
-any-order = demand3-of-ends toy (omega arith) ours theirs (proper-end (ours .table) (omega arith) (omega arith)) (proper-end (theirs .table) (omega arith) (omega arith)) (one-time (ours .table) (theirs .table) refl) 2 (omega arith)
+any-order =
+    demand3-of-ends toy (omega arith) ours theirs
+    (proper-end (ours .table) (omega arith) (omega arith))
+    (proper-end (theirs .table) (omega arith) (omega arith))
+    (one-time (ours .table) (theirs .table) refl) 2 (omega arith)
   where
     proper-end : (T : List ℕ) → Rising 0 T → Below 1000 T → Proper toy (end T)
     proper-end T rising below = record {

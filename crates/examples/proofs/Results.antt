@@ -7,7 +7,8 @@ use Rattle.message.specs.Varint.{readDigits, readVarint, digitsBefore, spellVar
 use Rattle.message.specs.Bound.{bigEndian, idSpace, key, readPrefix, readCoded, readBound, spellPrefix, spellBound}
 use Rattle.message.specs.Message.{Range, readIds, readOfMode, readPayload, readRange, readRanges, readMessage, spellPayload, spellRange, spellRanges, spellMessage}
 use Rattle.message.specs.Meaning.{isSkip, prepend, tidy, writeMessage}
-use Rattle.examples.specs.Table.{Varint, varints, Refused, refusals, Message, messages, merged}
+use Rattle.theory.specs.Standard.{sizes, without, shortened, shortest}
+use Rattle.examples.specs.Table.{Varint, varints, Refused, refusals, Message, messages, merged, Neighbours, neighbours, Division, divisions}
 
 pub table :
     (map (λ (e : Varint). spellVarint (e .value)) varints ≡ map (λ (e : Varint). e .bytes) varints)
@@ -16,5 +17,7 @@ pub table :
     × (map (λ (e : Message). readMessage (e .bytes)) messages ≡ map (λ (e : Message). read (e .ranges) []) messages)
     × (map (λ (e : Message). spellMessage (e .ranges)) messages ≡ map (λ (e : Message). e .bytes) messages)
     × (map (λ (e : Message). writeMessage (e .ranges)) merged ≡ map (λ (e : Message). e .bytes) merged)
-unfolding readMessage readRanges readRange readBound readCoded readPrefix readPayload readOfMode readIds readVarint readDigits readBytes key bigEndian idSpace writeMessage tidy prepend isSkip spellMessage spellRanges spellRange spellBound spellPrefix spellPayload spellVarint digitsBefore flatten
-table = (refl, refl, refl, refl, refl, refl)
+    × (map (λ (e : Neighbours). shortest (key (e .first)) (key (e .second))) neighbours ≡ map (λ (e : Neighbours). key (e .shortest)) neighbours)
+    × (map (λ (e : Division). sizes (e .parts) (e .items)) divisions ≡ map (λ (e : Division). e .sizes) divisions)
+unfolding readMessage readRanges readRange readBound readCoded readPrefix readPayload readOfMode readIds readVarint readDigits readBytes key bigEndian idSpace writeMessage tidy prepend isSkip spellMessage spellRanges spellRange spellBound spellPrefix spellPayload spellVarint digitsBefore flatten shortest shortened without sizes
+table = (refl, refl, refl, refl, refl, refl, refl, refl)

@@ -1,8 +1,8 @@
--- The worked examples of the message layer as data.
+-- The worked examples as data.
 use Prim.Native.Nat.{ℕ, _-_, _^_}
 use mathlib.Core.List.{List, [], _∷_, _++_}
 use lib.ListN.{replicate}
-use Rattle.message.specs.Bound.{infinity, finite}
+use Rattle.message.specs.Bound.{Bound, infinity, finite}
 use Rattle.message.specs.Message.{skip, fingerprint, ids, Range, range}
 
 -- E1: a value and its spelling
@@ -62,3 +62,25 @@ merged =
       bytes = 0x61 ∷ 0x0A ∷ 0x00 ∷ 0x02 ∷ 0x00 ∷ [];
     }
     ∷ []
+
+-- two neighbours, an item as the bound that compares as it does, and the shortest bound between them
+pub record Neighbours : Type 0 where
+  pub first : Bound
+  pub second : Bound
+  pub shortest : Bound
+
+-- the inner bounds of E4 and E5
+abbrev pub neighbours : List Neighbours
+neighbours =
+    record { first = finite 5 (0x02 ∷ []); second = finite 7 (0x03 ∷ []); shortest = finite 7 [] }
+    ∷ record { first = finite 5 (0x02 ∷ []); second = finite 5 (0x03 ∷ []); shortest = finite 5 (0x03 ∷ []) }
+    ∷ []
+
+-- E6: so many items in so many parts
+pub record Division : Type 0 where
+  pub items : ℕ
+  pub parts : ℕ
+  pub sizes : List ℕ
+
+abbrev pub divisions : List Division
+divisions = record { items = 7; parts = 3; sizes = 3 ∷ 2 ∷ 2 ∷ [] } ∷ []

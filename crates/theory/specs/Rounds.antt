@@ -8,7 +8,7 @@ use Rattle.theory.specs.Message.{fingerprint, ids, Message, Stands}
 use Rattle.theory.specs.Protocol.{Protocol}
 use Rattle.theory.specs.Run.{Session, Run, start, refused, taken}
 
--- "A cut is b (parts) and t (list limit)."
+-- "A cut is b (parts, 2 to 64) and t (list limit, b to 4,096)." Here any two numbers.
 pub record Cut : Type 0 where
   pub parts : ℕ
   pub limit : ℕ

@@ -1,7 +1,7 @@
 -- Ranges handed to the writer one after another, none refused, are written as `writeMessage` has them, and read back as they were meant.
 use Prim.Native.Nat.{ℕ, zero, suc, _+_, _*_, _^_, _<_, _≤_}
 use mathlib.Core.Path.{_≡_, refl, sym, ap, _∙_}
-use mathlib.Core.Bool.{true, false, cond, _&&_}
+use mathlib.Core.Bool.{Bool, true, false, cond, _&&_}
 use mathlib.Core.List.{List, [], _∷_, _++_, append-nil, append-assoc}
 use native.Mathlib.Omega.{arith}
 use lib.ListN.{length, take, drop, length-append, length-drop}
@@ -21,11 +21,12 @@ use Rattle.message.proofs.Forms.{ids-count}
 use Rattle.message.proofs.Meaning.{meaning}
 use Rattle.message.proofs.Tidying.{waiting, lastUpper, tidy-skip, tidy-more, waiting-more, last-more, spell-one, spell-two, write-skip, write-more}
 use Rattle.writer.specs.Writing.{taken, lay, started, lowerOf, lawful, boundsFit, pendingBytes, moreBytes, verdict, moved, next, outAfter}
-use Rattle.writer.specs.Stream.{Handed, meant, Lent, AllTaken, outAfterAll}
+use Rattle.writer.specs.Stream.{Handed, meant, Lent, State, before, handOver}
 use Rattle.writer.specs.Private.{Lawful, Inside}
 use Rattle.writer.specs.declared.write.Writer.{Writer}
 use Rattle.writer.proofs.Sizes.{both}
-use Rattle.writer.proofs.Steps.{by-time, passed, ready, next-taken}
+use Rattle.writer.proofs.Steps.{by-time, passed, ready}
+use Rattle.writer.proofs.Handover.{movedBy, laid, hand-taken, first-taken}
 
 -- ---- the writer that was handed the ranges rs
 
@@ -117,38 +118,34 @@ append-at a b out o at e p =
     sym (drop-drop (length b) (length a) o) ∙ ap (drop (length b)) tail ∙ drop-drop (length b) (length a) out ∙ ap (λ (k : ℕ). drop k out) (sym (length-append a b)) in
     rw (e, front, behind) (sym (append-assoc a b (drop (length (a ++ b)) out)))
 
-same-length : (b o : List ℕ) (at : ℕ) → at + length b ≤ length o → length (take at o ++ (b ++ drop (at + length b) o)) ≡ length o
+pub same-length : (b o : List ℕ) (at : ℕ) → at + length b ≤ length o → length (take at o ++ (b ++ drop (at + length b) o)) ≡ length o
 same-length b o at h =
     length-append (take at o) (b ++ drop (at + length b) o)
     ∙ rw (length-append b (drop (at + length b) o), length-take-le at o (omega arith), length-drop (at + length b) o) (omega arith)
 
-filled : (rs : List Range) (w : Writer) (hs : List Handed) (out o : List ℕ) → Follows rs w → o ≡ writeMessage rs ++ drop (length (writeMessage rs)) out → AllTaken (length o) w hs
-    → outAfterAll w hs o ≡ writeMessage (rs ++ meant hs) ++ drop (length (writeMessage (rs ++ meant hs))) out
+pub filled : (rs : List Range) (w : Writer) (hs : List Handed) (out o : List ℕ) → Follows rs w → o ≡ writeMessage rs ++ drop (length (writeMessage rs)) out
+    → handOver true (before w o) hs .verdict ≡ taken
+    → handOver true (before w o) hs .out ≡ writeMessage (rs ++ meant hs) ++ drop (length (writeMessage (rs ++ meant hs))) out
+unfolding handOver
 filled rs w [] out o f p t = rw (append-nil rs) p
 filled rs w (h ∷ hs) out o f p t =
-    let e : taken ≡ verdict (length o) w (h .range) (h .source) = sym (t .0) in
-    let put = out-taken w (h .range) (h .source) o e in
-    let same = ap length put ∙ same-length (moreBytes w (rangeOf (h .range) (h .source))) o (w .at) (ready (length o) w (h .range) (h .source) e .3) in
-    let now = put
+    let e = first-taken true w o h hs t in
+    let on = hand-taken true w o h hs e in
+    let now = out-taken w (h .range) (h .source) o e
     ∙ append-at (writeMessage rs) (moreBytes w (rangeOf (h .range) (h .source))) out o (w .at) (f .place) p
     ∙ ap (λ (l : List ℕ). l ++ drop (length l) out) (sym (feed rs w (rangeOf (h .range) (h .source)) f)) in
-    let behind : Follows (rs ++ (rangeOf (h .range) (h .source) ∷ [])) (next (length o) w (h .range) (h .source)) =
-    rw (← next-taken (length o) w (h .range) (h .source) e) (follow rs w (h .range) (h .source) f) in
-    filled (rs ++ (rangeOf (h .range) (h .source) ∷ [])) (next (length o) w (h .range) (h .source)) hs out (outAfter w (h .range) (h .source) o) behind now (rw same (t .1))
+    ap (λ (s : State). s .out) on
+    ∙ filled (rs ++ (rangeOf (h .range) (h .source) ∷ [])) (movedBy w h) hs out (outAfter w (h .range) (h .source) o) (follow rs w (h .range) (h .source) f) now (rw on at t)
     ∙ ap (λ (l : List Range). writeMessage l ++ drop (length (writeMessage l)) out) (append-assoc rs (rangeOf (h .range) (h .source) ∷ []) (meant hs))
 
-begin-is : (out : List ℕ) → 1 ≤ length out → lay (0x61 ∷ []) out ≡ writeMessage [] ++ drop (length (writeMessage [])) out
+pub begin-is : (out : List ℕ) → 1 ≤ length out → lay (0x61 ∷ []) out ≡ writeMessage [] ++ drop (length (writeMessage [])) out
 unfolding lay writeMessage tidy spellMessage spellRanges
 begin-is out h = rw (le-leb 1 (length out) h) refl
 
-lay-one : (out : List ℕ) → 1 ≤ length out → length (lay (0x61 ∷ []) out) ≡ length out
-unfolding lay
-lay-one out h = rw (le-leb 1 (length out) h) (length-append (0x61 ∷ []) (drop 1 out) ∙ rw (length-drop 1 out) (omega arith))
-
 -- The out buffer holds the message of the ranges handed over, and behind it the bytes that it had.
-pub written : (hs : List Handed) (out : List ℕ) → 1 ≤ length out → AllTaken (length out) started hs
-    → outAfterAll started hs (lay (0x61 ∷ []) out) ≡ writeMessage (meant hs) ++ drop (length (writeMessage (meant hs))) out
-written hs out h t = filled [] started hs out (lay (0x61 ∷ []) out) begun (begin-is out h) (rw (lay-one out h) t)
+pub written : (hs : List Handed) (out : List ℕ) → 1 ≤ length out → handOver true (before started (lay (0x61 ∷ []) out)) hs .verdict ≡ taken
+    → handOver true (before started (lay (0x61 ∷ []) out)) hs .out ≡ writeMessage (meant hs) ++ drop (length (writeMessage (meant hs))) out
+written hs out h t = filled [] started hs out (lay (0x61 ∷ []) out) begun (begin-is out h) t
 
 -- ---- what was meant
 
@@ -176,30 +173,29 @@ bound-meant : (b : B.Bound) (p : List ℕ) → Bytes p → Lawful b → LawfulBo
 bound-meant B.Bound.Infinity p by h = tt
 bound-meant (B.Bound.At t n) p by h = (h .0, omega (arith, shorter n p), bytes-take n p by .0)
 
-lower-moved : (w : Writer) (r : R.Range) (m : List ℕ) → lowerOf (moved w r m) ≡ boundOf (r .bound) (r .prefix)
+pub lower-moved : (w : Writer) (r : R.Range) (m : List ℕ) → lowerOf (moved w r m) ≡ boundOf (r .bound) (r .prefix)
 unfolding moved
 lower-moved w r m = byTest (isSkip (rangeOf r m)) (λ e. rw e refl) (λ e. rw e refl)
 
-rising : (size : ℕ) (w : Writer) (hs : List Handed) → All Lent hs → AllTaken size w hs → Rising (lowerOf w) (meant hs)
-rising size w [] l t = tt
-rising size w (h ∷ hs) l t =
-    let e : taken ≡ verdict size w (h .range) (h .source) = sym (t .0) in
-    let fit = ready size w (h .range) (h .source) e in
-    let lent = l .0 in
-    let low = ap lowerOf (sym (next-taken size w (h .range) (h .source) e)) ∙ lower-moved w (h .range) (h .source) in (
-      rises size w (h .range) (h .source) e,
+rising : (writing : Bool) (w : Writer) (o : List ℕ) (hs : List Handed) → All Lent hs → handOver writing (before w o) hs .verdict ≡ taken → Rising (lowerOf w) (meant hs)
+rising writing w o [] l t = tt
+rising writing w o (h ∷ hs) l t =
+    let e = first-taken writing w o h hs t in
+    let fit = ready (length o) w (h .range) (h .source) e in
+    let lent = l .0 in (
+      rises (length o) w (h .range) (h .source) e,
       bound-meant (h .range .bound) (h .range .prefix) (lent .0) (fit .1),
       payload-meant (h .range .payload) (h .source) (lent .1) (lent .2) (fit .2),
-      rw (← low) (rising size (next size w (h .range) (h .source)) hs (l .1) (t .1)),
+      rw (← lower-moved w (h .range) (h .source)) (rising writing (movedBy w h) (laid writing w h o) hs (l .1) (rw (hand-taken writing w o h hs e) at t)),
     )
 
-lower-started : lowerOf started ≡ start
+pub lower-started : lowerOf started ≡ start
 unfolding started
 lower-started = refl
 
 -- The message that was written reads back as the ranges handed over, tidied, and the payload at each position is theirs.
-pub reads-back : (size : ℕ) (hs : List Handed) → All Lent hs → AllTaken size started hs
+pub reads-back : (writing : Bool) (o : List ℕ) (hs : List Handed) → All Lent hs → handOver writing (before started o) hs .verdict ≡ taken
     → (readMessage (writeMessage (meant hs)) ≡ read (tidy (meant hs)) []) × ((k : ℕ) → payloadAt (tidy (meant hs)) k ≡ payloadAt (meant hs) k)
-reads-back size hs l t =
-    let r = meaning (meant hs) (rw (← lower-started) (rising size started hs l t)) in
+reads-back writing o hs l t =
+    let r = meaning (meant hs) (rw (← lower-started) (rising writing started o hs l t)) in
     (r .0, r .3)

@@ -1,3 +1,3 @@
 pub mod Writing
-pub mod Stream
 pub mod Private
+pub mod Stream

@@ -12,7 +12,7 @@ use message::Refusal;
 use message::below;
 ghost use Prim.Native.Nat.{ℕ, _+_, _≤_, _<_, _^_};
 ghost use mathlib.Core.Path.{_≡_};
-ghost use mathlib.Core.Bool.{false};
+ghost use mathlib.Core.Bool.{false, cond};
 ghost use mathlib.Core.List.{List, [], _∷_};
 ghost use lib.Dec.{leb};
 ghost use lib.ListN.{length};
@@ -265,5 +265,17 @@ impl Writer {
                 answer
             }
         }
+    }
+
+    // One range more, where `writing` says so: otherwise it is only measured, with the same answer.
+    pub fn put(self, out: &mut [u8], writing: bool, range: Range, source: &[u8]) -> Write
+        ensures { λ r. ⌜ verdictOf (r .written) ≡ verdict (length (now (out .entry))) self range (now (source .entry)) ⌝ }
+        ensures { λ r. ⌜ r .next ≡ next (length (now (out .entry))) self range (now (source .entry)) ⌝ }
+        ensures { λ _. ⌜ now (out .exit) ≡ cond writing (outAfter self range (now (source .entry)) (now (out .entry))) (now (out .entry)) ⌝ }
+    {
+        if writing {
+            return self.write(out, range, source);
+        }
+        self.measure(out.len(), range, source)
     }
 }

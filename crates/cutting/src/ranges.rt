@@ -1,0 +1,151 @@
+// The ranges that a span becomes, handed to the writer: written, or only measured.
+use crate::Cut;
+use crate::Span;
+use crate::between::Placed;
+use crate::between::shortest_bound;
+use crate::part_size;
+use label::Label;
+use message::Payload;
+use message::Range;
+use writer::varint::Written;
+use writer::write::Write;
+use writer::write::Writer;
+ghost use mathlib.Core.Path.{_≡_};
+ghost use mathlib.Core.Bool.{false};
+ghost use mathlib.Core.List.{[], _∷_};
+ghost use Prim.Native.Nat.{_-_, _≤_, _<_};
+ghost use lib.ListN.{length};
+ghost use Rattle.message.specs.Message.{range, fingerprint, ids};
+ghost use Rattle.message.specs.Code.{boundOf};
+ghost use Rattle.theory.specs.Cutting.{split};
+ghost use Rattle.theory.specs.Standard.{sizes};
+ghost use Rattle.writer.specs.Private.{Lawful};
+ghost use Rattle.writer.specs.Stream.{before, after, HandsOver};
+ghost use Rattle.table.specs.Table.{idsOf, items};
+ghost use Rattle.table.specs.Code.{lent};
+ghost use Rattle.table.specs.Private.{Passed, itemAt};
+ghost use Rattle.cutting.specs.Cutting as spec;
+ghost use Rattle.cutting.specs.Code.{cutOf, run, ownIn, upperOf, Inside};
+
+// One range with all own ids of the span, in table order.
+pub fn put_ids(
+    writer: Writer,
+    out: &mut [u8],
+    writing: bool,
+    times: &[u64],
+    own: &[u8],
+    span: Span,
+) -> Write
+    requires { ⌜ Passed (lent (now times) (now own)) × Inside (lent (now times) (now own)) span ⌝ }
+    ensures { λ r. ⌜ HandsOver writing (range (upperOf span) (ids (idsOf (ownIn (lent (now (times .entry)) (now (own .entry))) span))) ∷ []) (before writer (now (out .entry))) (after r (now (out .exit))) ⌝ }
+{
+    let bound = span.bound;
+    let prefix = span.prefix;
+    let range = Range {
+        bound,
+        prefix,
+        payload: Payload::Ids {
+            count: span.hi - span.lo,
+            at: span.lo * 32,
+        },
+    };
+    writer.put(out, writing, range, own)
+}
+
+// One range with the fingerprint of the items from place `at` up to place `end`.
+fn put_fingerprint(
+    writer: Writer,
+    out: &mut [u8],
+    writing: bool,
+    times: &[u64],
+    own: &[u8],
+    at: usize,
+    end: usize,
+    upper: Placed,
+) -> Write
+    requires { ⌜ Passed (lent (now times) (now own)) × (at ≤ end) × (end ≤ length (now times)) × Lawful (upper .bound) ⌝ }
+    ensures { λ r. ⌜ HandsOver writing (range (boundOf (upper .bound) (upper .prefix)) (fingerprint (spec.fingerprintOf (run (lent (now (times .entry)) (now (own .entry))) at end))) ∷ []) (before writer (now (out .entry))) (after r (now (out .exit))) ⌝ }
+{
+    let first = at * 32;
+    let last = end * 32;
+    let source = Label::of_ids(&own[first..last]).fingerprint();
+    let bound = upper.bound;
+    let prefix = upper.prefix;
+    let range = Range {
+        bound,
+        prefix,
+        payload: Payload::Fingerprint { at: 0 },
+    };
+    writer.put(out, writing, range, &source)
+}
+
+// The upper bound of the part that ends at the place `end`: the shortest between neighbours, and at the end of the span its own.
+fn upper_at(times: &[u64], own: &[u8], span: Span, end: usize) -> Placed
+    requires { ⌜ Passed (lent (now times) (now own)) × Inside (lent (now times) (now own)) span × (0 < end) × (end ≤ span .hi) ⌝ }
+    ensures { λ r. ⌜ Lawful (r .bound) × (end ≡ span .hi → boundOf (r .bound) (r .prefix) ≡ upperOf span) × (end < span .hi → boundOf (r .bound) (r .prefix) ≡ spec.shortest (itemAt (lent (now (times .entry)) (now (own .entry))) (end - 1)) (itemAt (lent (now (times .entry)) (now (own .entry))) end)) ⌝ }
+{
+    if end < span.hi {
+        return shortest_bound(times, own, end);
+    }
+    let bound = span.bound;
+    let prefix = span.prefix;
+    Placed { bound, prefix }
+}
+
+// The fingerprints of the parts of the span.
+fn put_parts(
+    writer: Writer,
+    out: &mut [u8],
+    writing: bool,
+    times: &[u64],
+    own: &[u8],
+    parts: usize,
+    span: Span,
+) -> Write
+    requires { ⌜ Passed (lent (now times) (now own)) × Inside (lent (now times) (now own)) span × (0 < parts) × (parts ≤ span .hi - span .lo) ⌝ }
+    ensures { λ r. ⌜ HandsOver writing (spec.fingerprintRanges (split (sizes parts (span .hi - span .lo)) (ownIn (lent (now (times .entry)) (now (own .entry))) span)) (upperOf span)) (before writer (now (out .entry))) (after r (now (out .exit))) ⌝ }
+{
+    let count = span.hi - span.lo;
+    let mut answer = Write {
+        written: Written::Taken,
+        next: writer,
+    };
+    let mut at = span.lo;
+    let mut i = 0;
+    while i < parts {
+        let end = at + part_size(parts, count, i);
+        let upper = upper_at(times, own, span, end);
+        let next = answer.next;
+        answer = put_fingerprint(next, out, writing, times, own, at, end, upper);
+        let written = answer.written;
+        match written {
+            Written::Refused { refusal: _ } => {
+                return answer;
+            }
+            Written::Taken => {
+                at = end;
+                i += 1;
+            }
+        }
+    }
+    answer
+}
+
+// The cutting of the span.
+pub fn put_cut(
+    writer: Writer,
+    out: &mut [u8],
+    writing: bool,
+    times: &[u64],
+    own: &[u8],
+    cut: Cut,
+    span: Span,
+) -> Write
+    requires { ⌜ Passed (lent (now times) (now own)) × Inside (lent (now times) (now own)) span × (spec.outsideLimits (cutOf cut) ≡ false) ⌝ }
+    ensures { λ r. ⌜ HandsOver writing (spec.cut (cutOf cut) (ownIn (lent (now (times .entry)) (now (own .entry))) span) (upperOf span)) (before writer (now (out .entry))) (after r (now (out .exit))) ⌝ }
+{
+    if span.hi - span.lo <= cut.limit {
+        return put_ids(writer, out, writing, times, own, span);
+    }
+    put_parts(writer, out, writing, times, own, cut.parts, span)
+}

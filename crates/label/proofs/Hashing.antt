@@ -1,0 +1,103 @@
+-- The bytes that a fingerprint is made of: the four words of the sum and the varint of the count, each laid behind those before it.
+use mathlib.Core.Path.{_≡_, refl, sym, ap, ap₂, _∙_, subst}
+use mathlib.Core.List.{List, _∷_, _++_, append-assoc}
+use Prim.Native.Nat.{ℕ, zero, suc, _+_, _-_, _*_, _/_, _%_, _^_, _≤_, _<_}
+use native.Mathlib.Nat.{zero-add, suc-add, one-mul, pow-suc, div-lt-iff-lt-mul}
+use native.Mathlib.Omega.{arith}
+use lib.Arith.{lt-one}
+use lib.Dec.{lit<, leb}
+use lib.ListN.{length, take, drop, length-append}
+use lib.Seq.{take-at, take-take, sets, sets-eq}
+use borrow.Rule.Slice.PartMut.{midOf, putMid}
+use borrow.Author.Tests.{leb-true, leb-false}
+use Rattle.message.specs.Varint.{spellVarint}
+use Rattle.message.proofs.Exact.{byTest}
+use Rattle.message.proofs.Varints.{as-few-as-possible, spell-short}
+use Rattle.writer.specs.Writing.{lay}
+use Rattle.writer.proofs.Laying.{rest, joined, lay-fits, lay-length, lay-behind}
+use Rattle.sha256.specs.Fips180.{digest}
+use Rattle.label.specs.Label.{Label, lowBytes, hashed, fingerprint}
+use Rattle.label.proofs.Words.{pow-step, four}
+
+-- ---- the bytes of a number
+
+pub low-length : (n v : ℕ) → length (lowBytes n v) ≡ n
+unfolding lowBytes
+low-length zero v = refl
+low-length (suc n) v = ap suc (low-length n (v / 256))
+
+-- m bytes, then n more
+low-split : (m n a h : ℕ) → a < 256 ^ m → lowBytes (m + n) (a + 256 ^ m * h) ≡ lowBytes m a ++ lowBytes n h
+unfolding lowBytes
+low-split zero n a h l = ap₂ lowBytes (zero-add n) (ap₂ (λ (x y : ℕ). x + y) (lt-one l) (one-mul h) ∙ zero-add h)
+low-split (suc m) n a h l =
+    let e = pow-step m h in
+    let d : a / 256 < 256 ^ m = div-lt-iff-lt-mul (lit< tt) .1 (subst (λ (x : ℕ). a < x) (pow-suc 256 m) l) in
+    let low : (a + 256 ^ suc m * h) % 256 ≡ a % 256 = omega (arith, e) in
+    let high : (a + 256 ^ suc m * h) / 256 ≡ a / 256 + 256 ^ m * h = omega (arith, e) in
+    ap (λ (k : ℕ). lowBytes k (a + 256 ^ suc m * h)) (suc-add m n)
+    ∙ ap₂ (λ (x : ℕ) (y : List ℕ). x ∷ y) low (ap (lowBytes (m + n)) high ∙ low-split m n (a / 256) h d)
+
+low-four : (a b c d : ℕ) → a < 2 ^ 64 → b < 2 ^ 64 → c < 2 ^ 64 → lowBytes 32 (four a b c d) ≡ lowBytes 8 a ++ (lowBytes 8 b ++ (lowBytes 8 c ++ lowBytes 8 d))
+low-four a b c d ha hb hc =
+    low-split 8 24 a (b + 2 ^ 64 * (c + 2 ^ 64 * d)) ha
+    ∙ ap (λ (x : List ℕ). lowBytes 8 a ++ x) (low-split 8 16 b (c + 2 ^ 64 * d) hb ∙ ap (λ (x : List ℕ). lowBytes 8 b ++ x) (low-split 8 8 c d hc))
+
+-- ---- bytes laid behind one another
+
+-- bytes stored one by one
+pub stored : (bytes out : List ℕ) → length bytes ≤ length out → sets out 0 bytes ≡ lay bytes out
+stored bytes out h =
+    let fits : 0 + length bytes ≤ length out = omega arith in
+    let n : 0 + length bytes ≡ length bytes = omega arith in
+    sets-eq bytes out 0 fits ∙ ap (λ (k : ℕ). bytes ++ drop k out) n ∙ sym (lay-fits bytes out h)
+
+-- o₁ is o with the n bytes a at its start
+abbrev Begins : ℕ → List ℕ → List ℕ → List ℕ → Type 0
+Begins n a o o₁ = (length a ≡ n) × (o₁ ≡ lay a o)
+
+-- m bytes more are laid at the start of the last k bytes
+behind : (m n k : ℕ) (a b o o₁ last : List ℕ) → length b ≡ m → m ≤ k → n + k ≡ length o → Begins n a o o₁ → last ≡ lay b (midOf n k o₁) → Begins (n + m) (a ++ b) o (putMid n k o₁ last)
+behind m n k a b o o₁ last e l h p q =
+    let left : k ≡ length o₁ - n = omega (arith, lay-length a o o₁ (omega arith) (p .1)) in
+    let part : last ≡ lay b (rest n o₁) = q ∙ ap (λ (j : ℕ). lay b (take j (drop n o₁))) left in
+    let both : length (a ++ b) ≡ n + m = length-append a b ∙ ap₂ (λ (x y : ℕ). x + y) (p .0) e in
+    let laid : joined n o₁ last ≡ lay (a ++ b) o = lay-behind a b o o₁ last n (sym (p .0)) (omega arith) (p .1) part in
+    (both, ap (λ (j : ℕ). putMid n j o₁ last) left ∙ laid)
+
+-- ten digits hold 64 bits
+pub varint-fits : (v : ℕ) → v < 2 ^ 64 → length (spellVarint v) ≤ 10
+varint-fits v h =
+    let n : ℕ = length (spellVarint v) in
+    byTest (leb n 10) (leb-true n 10)
+    (λ e. let eleven : 10 + 1 ≡ n = omega (arith, leb-false n 10 e, spell-short v) in absurd (omega (arith, as-few-as-possible 10 v h .0 eleven .1 (omega arith))))
+
+-- ---- what is hashed
+
+regroup : (a b c d : List ℕ) → ((a ++ b) ++ c) ++ d ≡ a ++ (b ++ (c ++ d))
+regroup a b c d = simp append-assoc
+
+-- the first `end` bytes of an array of 42 to which the four words and the bytes v were written
+pub hashed-is : (a b c d end : ℕ) (v o o₁ l₂ l₃ l₄ l₅ : List ℕ) → a < 2 ^ 64 → b < 2 ^ 64 → c < 2 ^ 64 → length o ≡ 42 → length v ≤ 10 → end ≡ 32 + length v
+    → o₁ ≡ lay (lowBytes 8 a) o → l₂ ≡ lay (lowBytes 8 b) (midOf 8 34 o₁) → l₃ ≡ lay (lowBytes 8 c) (midOf 16 26 (putMid 8 34 o₁ l₂))
+    → l₄ ≡ lay (lowBytes 8 d) (midOf 24 18 (putMid 16 26 (putMid 8 34 o₁ l₂) l₃))
+    → l₅ ≡ lay v (midOf 32 10 (putMid 24 18 (putMid 16 26 (putMid 8 34 o₁ l₂) l₃) l₄))
+    → take end (putMid 32 10 (putMid 24 18 (putMid 16 26 (putMid 8 34 o₁ l₂) l₃) l₄) l₅) ≡ lowBytes 32 (four a b c d) ++ v
+hashed-is a b c d end v o o₁ l₂ l₃ l₄ l₅ ha hb hc h n e p₁ p₂ p₃ p₄ p₅ =
+    let word = lowBytes 8 in
+    let s₂ = behind 8 8 34 (word a) (word b) o o₁ l₂ (low-length 8 b) (omega arith) (omega arith) (low-length 8 a, p₁) p₂ in
+    let s₃ = behind 8 16 26 (word a ++ word b) (word c) o _ l₃ (low-length 8 c) (omega arith) (omega arith) s₂ p₃ in
+    let s₄ = behind 8 24 18 ((word a ++ word b) ++ word c) (word d) o _ l₄ (low-length 8 d) (omega arith) (omega arith) s₃ p₄ in
+    let s₅ = behind (length v) 32 10 (((word a ++ word b) ++ word c) ++ word d) v o _ l₅ refl n (omega arith) s₄ p₅ in
+    let all : List ℕ = (((word a ++ word b) ++ word c) ++ word d) ++ v in
+    ap (take end) (s₅ .1 ∙ lay-fits all o (omega (arith, s₅ .0))) ∙ take-at all (drop (length all) o) end (s₅ .0 ∙ sym e)
+    ∙ ap (λ (x : List ℕ). x ++ v) (regroup (word a) (word b) (word c) (word d) ∙ sym (low-four a b c d ha hb hc))
+
+pub fingerprint-is : (l : Label) (bytes d r : List ℕ) → bytes ≡ hashed l → d ≡ digest bytes → r ≡ take 16 d → r ≡ fingerprint l
+unfolding fingerprint
+fingerprint-is l bytes d r p q e = e ∙ ap (take 16) (q ∙ ap digest p)
+
+-- a fingerprint has 16 bytes at most
+pub fingerprint-whole : (l : Label) → take 16 (fingerprint l) ≡ fingerprint l
+unfolding fingerprint
+fingerprint-whole l = take-take 16 16 (digest (hashed l)) (omega arith)

@@ -1,0 +1,98 @@
+// Labels of ranges of items: the sum of their ids modulo 2^256 and how many there are. And the fingerprint of a label.
+use crate::word::add_words;
+use crate::word::first_half;
+use crate::word::word_at;
+use crate::word::write_word;
+use sha256::digest;
+use std::num::wrapping_add_u64;
+use writer::varint::width;
+use writer::varint::write_varint;
+ghost use mathlib.Core.Path.{_≡_};
+ghost use mathlib.Core.List.{[], _∷_};
+ghost use Prim.Native.Nat.{_≤_};
+ghost use lib.ListN.{length, take};
+ghost use Rattle.label.specs.Label as spec;
+ghost use Rattle.label.specs.Code.{labelIn, wholeIds};
+
+mod word;
+
+// The sum is four words, the least significant first.
+pub struct Label {
+    pub sum: [u64; 4],
+    pub count: u64,
+}
+
+impl Label {
+    // The label of no items.
+    pub const EMPTY: Label = Label {
+        sum: [0, 0, 0, 0],
+        count: 0,
+    };
+
+    fn of_whole_id(id: &[u8]) -> Label
+        requires { ⌜ 32 ≤ length (now id) ⌝ }
+        ensures { λ r. ⌜ labelIn r ≡ spec.labelOf (take 32 (now (id .entry)) ∷ []) ⌝ }
+    {
+        let sum = [
+            word_at(id, 0),
+            word_at(id, 8),
+            word_at(id, 16),
+            word_at(id, 24),
+        ];
+        Label { sum, count: 1 }
+    }
+
+    // The label of the item whose id is the first 32 bytes of `id`; of none where there are fewer.
+    pub fn of_id(id: &[u8]) -> Label
+        ensures { λ r. ⌜ labelIn r ≡ spec.labelOf (wholeIds (take 32 (now (id .entry)))) ⌝ }
+    {
+        if id.len() < 32 {
+            return Label::EMPTY;
+        }
+        Label::of_whole_id(id)
+    }
+
+    // The label of two ranges together.
+    pub fn add(self, other: Label) -> Label
+        ensures { λ r. ⌜ labelIn r ≡ spec.add (labelIn self) (labelIn other) ⌝ }
+    {
+        let a = add_words(self.sum[0], other.sum[0], 0);
+        let b = add_words(self.sum[1], other.sum[1], a.carry);
+        let c = add_words(self.sum[2], other.sum[2], b.carry);
+        let d = add_words(self.sum[3], other.sum[3], c.carry);
+        let sum = [a.low, b.low, c.low, d.low];
+        Label {
+            sum,
+            count: wrapping_add_u64(self.count, other.count),
+        }
+    }
+
+    // The label of the items whose ids stand one behind another.
+    pub fn of_ids(ids: &[u8]) -> Label
+        ensures { λ r. ⌜ labelIn r ≡ spec.labelOf (wholeIds (now (ids .entry))) ⌝ }
+    {
+        let n = ids.len() / 32;
+        let mut label = Label::EMPTY;
+        let mut i = 0;
+        while i < n {
+            let at = i * 32;
+            label = label.add(Label::of_whole_id(&ids[at..]));
+            i += 1;
+        }
+        label
+    }
+
+    // The fingerprint: what is hashed are the sum, least significant byte first, and the count as a varint.
+    pub fn fingerprint(self) -> [u8; 16]
+        ensures { λ r. ⌜ r ≡ spec.fingerprint (labelIn self) ⌝ }
+    {
+        let mut bytes = [0u8; 42];
+        let end = 32 + width(self.count);
+        write_word(&mut bytes, self.sum[0]);
+        write_word(&mut bytes[8..], self.sum[1]);
+        write_word(&mut bytes[16..], self.sum[2]);
+        write_word(&mut bytes[24..], self.sum[3]);
+        write_varint(&mut bytes[32..], self.count);
+        first_half(digest(&bytes[..end]))
+    }
+}

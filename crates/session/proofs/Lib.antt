@@ -1,0 +1,2 @@
+-- Ranges   the items between two bounds, by their places; the checks of the fingerprint call
+pub mod Ranges

@@ -1,18 +1,15 @@
 -- The ranges of the parts, one after another.
 use Prim.Native.Nat.{ℕ, zero, suc, _+_, _-_, _*_, _≤_, _<_}
 use mathlib.Core.Path.{_≡_, refl, sym, ap, _∙_}
-use mathlib.Core.Bool.{Bool, false, _||_}
+use mathlib.Core.Bool.{Bool}
 use mathlib.Core.List.{List, [], _∷_, _++_, append-nil, append-assoc}
 use native.Mathlib.Nat.{zero-add, suc-add, mul-div-cancel}
 use native.Mathlib.Numerals.{add-one}
 use native.Mathlib.Omega.{arith}
-use lib.Dec.{ltb}
-use lib.ListN.{length, getD, take, drop, length-take, length-drop}
+use lib.ListN.{length, getD, take, drop, length-drop}
 use lib.Seq.{getD-take, getD-drop, take-take, drop-drop, take-nil, length-take-le}
-use borrow.Author.Tests.{ltb-false}
 use Rattle.message.specs.Bound.{Bound}
 use Rattle.message.specs.Message.{Range, range, fingerprint}
-use Rattle.theory.specs.Rounds.{Cut}
 use Rattle.theory.specs.End.{Fit}
 use Rattle.theory.specs.Cutting.{split}
 use Rattle.theory.specs.Standard.{sizes}
@@ -27,12 +24,11 @@ use Rattle.label.specs.Code.{wholeIds}
 use Rattle.label.proofs.Hashing.{fingerprint-whole}
 use Rattle.table.specs.Table.{Item, Table, items, idsOf}
 use Rattle.table.specs.Private.{Passed, itemAt}
-use Rattle.table.proofs.Tests.{or-false}
 use Rattle.table.proofs.Items.{right-size, items-length, items-at, ids-slice}
 use Rattle.cutting.specs.Code.{upperOf, Inside}
 use Rattle.cutting.specs.declared.Span.{Span}
 use Rattle.cutting.proofs.Sizes.{sizes-from, sizes-end}
-use Rattle.cutting.specs.Cutting.{shortest, fingerprintOf, nth, innerBound, fingerprintRanges, outsideLimits}
+use Rattle.cutting.specs.Cutting.{shortest, fingerprintOf, nth, innerBound, fingerprintRanges}
 
 abbrev nobody : Item
 nobody = record { time = 0; id = [] }
@@ -221,12 +217,3 @@ module _ (writing : Bool) (T : Table) (b : ℕ) (s : Span) (start : State) (fits
 
 pub own-length : (T : Table) (s : Span) → Inside T s → length (runOf (items T) (s .lo) (s .hi)) ≡ s .hi - s .lo
 own-length T s fits = let h = fits .0 in let l = fits .1 in run-length (items T) (s .lo) (s .hi) h (rw (items-length T) l)
-
--- what check 3 has shown
-pub within-limits : (c : Cut) → outsideLimits c ≡ false → (2 ≤ c .parts) × (c .parts ≤ 64) × (c .parts ≤ c .limit) × (c .limit ≤ 4096)
-unfolding outsideLimits
-within-limits c e =
-    let a = or-false (ltb (c .parts) 2 || ltb 64 (c .parts) || ltb (c .limit) (c .parts)) (ltb 4096 (c .limit)) e in
-    let b = or-false (ltb (c .parts) 2 || ltb 64 (c .parts)) (ltb (c .limit) (c .parts)) (a .0) in
-    let d = or-false (ltb (c .parts) 2) (ltb 64 (c .parts)) (b .0) in
-    (ltb-false _ _ (d .0), ltb-false _ _ (d .1), ltb-false _ _ (b .1), ltb-false _ _ (a .1))

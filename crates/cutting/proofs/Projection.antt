@@ -26,6 +26,7 @@ use Rattle.theory.proofs.Tables.{rising-next, rising-between}
 use Rattle.theory.proofs.Standard.{sizes-fit}
 use Rattle.table.specs.Lists.{keep}
 use Rattle.table.specs.Table.{Item, keyOf, within, idsOf}
+use Rattle.table.proofs.Items.{map-take, map-drop}
 use Rattle.cutting.specs.Cutting.{shortest, fingerprintOf, nth, innerBound, fingerprintRanges, cut}
 use Rattle.cutting.proofs.Numbers.{Whole, key-id, key-time, shortest-key}
 
@@ -112,16 +113,6 @@ module _ {A : Type 0} (P : A → Type 0) where
   all-at d n [] h lt = absurd (omega arith)
   all-at d zero (x ∷ l) h lt = h .0
   all-at d (suc n) (x ∷ l) h lt = all-at d n l (h .1) (omega arith)
-
-map-take : {A B : Type 0} (f : A → B) (n : ℕ) (l : List A) → map f (take n l) ≡ take n (map f l)
-map-take f zero l = refl
-map-take f (suc n) [] = refl
-map-take f (suc n) (x ∷ l) = rw (map-take f n l) refl
-
-map-drop : {A B : Type 0} (f : A → B) (n : ℕ) (l : List A) → map f (drop n l) ≡ drop n (map f l)
-map-drop f zero l = refl
-map-drop f (suc n) [] = refl
-map-drop f (suc n) (x ∷ l) = map-drop f n l
 
 abbrev nobody : Item
 nobody = record { time = 0; id = [] }

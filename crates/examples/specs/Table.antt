@@ -4,6 +4,10 @@ use mathlib.Core.List.{List, [], _∷_, _++_}
 use lib.ListN.{replicate}
 use Rattle.message.specs.Bound.{Bound, infinity, finite}
 use Rattle.message.specs.Message.{skip, fingerprint, ids, Range, range}
+use Rattle.theory.specs.Rounds.{Cut}
+use Rattle.table.specs.Table.{Item, Table}
+use Rattle.label.specs.Label.{Label}
+use Rattle.cutting.specs.Cutting.{fingerprintOf}
 
 -- E1: a value and its spelling
 pub record Varint : Type 0 where
@@ -63,17 +67,24 @@ merged =
     }
     ∷ []
 
--- two neighbours, an item as the bound that compares as it does, and the shortest bound between them
+-- the id that starts with b and is then zero
+abbrev pub starting : ℕ → List ℕ
+starting b = b ∷ replicate 31 0
+
+abbrev pub item : ℕ → ℕ → Item
+item t b = record { time = t; id = starting b }
+
+-- two neighbours, and the shortest bound between them
 pub record Neighbours : Type 0 where
-  pub first : Bound
-  pub second : Bound
-  pub shortest : Bound
+  pub first : Item
+  pub second : Item
+  pub bound : Bound
 
 -- the inner bounds of E4 and E5
 abbrev pub neighbours : List Neighbours
 neighbours =
-    record { first = finite 5 (0x02 ∷ []); second = finite 7 (0x03 ∷ []); shortest = finite 7 [] }
-    ∷ record { first = finite 5 (0x02 ∷ []); second = finite 5 (0x03 ∷ []); shortest = finite 5 (0x03 ∷ []) }
+    record { first = item 5 0x02; second = item 7 0x03; bound = finite 7 [] }
+    ∷ record { first = item 5 0x02; second = item 5 0x03; bound = finite 5 (0x03 ∷ []) }
     ∷ []
 
 -- E6: so many items in so many parts
@@ -84,3 +95,51 @@ pub record Division : Type 0 where
 
 abbrev pub divisions : List Division
 divisions = record { items = 7; parts = 3; sizes = 3 ∷ 2 ∷ 2 ∷ [] } ∷ []
+
+-- E4, E5: a table, its cut, and the message that the whole range becomes
+pub record Opening : Type 0 where
+  pub table : Table
+  pub cut : Cut
+  pub message : List ℕ
+  pub size : ℕ
+
+-- the fingerprints of the two parts; times are no part of a label
+abbrev pub F : List ℕ
+F = fingerprintOf (item 5 0x01 ∷ item 5 0x02 ∷ [])
+
+abbrev pub G : ℕ → List ℕ
+G t = fingerprintOf (item t 0x03 ∷ [])
+
+abbrev pub threeIds : List ℕ
+threeIds = starting 0x01 ++ (starting 0x02 ++ starting 0x03)
+
+abbrev pub openings : List Opening
+openings =
+    record {
+      table = record { times = 5 ∷ 5 ∷ 7 ∷ []; ids = threeIds };
+      cut = record { parts = 2; limit = 2 };
+      message = 0x61 ∷ 0x08 ∷ 0x00 ∷ 0x01 ∷ (F ++ (0x00 ∷ 0x00 ∷ 0x01 ∷ G 7));
+      size = 39;
+    }
+    ∷ record {
+      table = record { times = 5 ∷ 5 ∷ 5 ∷ []; ids = threeIds };
+      cut = record { parts = 2; limit = 2 };
+      message = 0x61 ∷ 0x06 ∷ 0x01 ∷ 0x03 ∷ 0x01 ∷ (F ++ (0x00 ∷ 0x00 ∷ 0x01 ∷ G 5));
+      size = 40;
+    }
+    ∷ []
+
+-- E10: ids, their label and what is hashed
+pub record Labelled : Type 0 where
+  pub ids : List (List ℕ)
+  pub label : Label
+  pub hashed : List ℕ
+
+abbrev pub labels : List Labelled
+labels =
+    record {
+      ids = replicate 32 0xFF ∷ starting 0x01 ∷ [];
+      label = record { sum = 0; count = 2 };
+      hashed = replicate 32 0x00 ++ (0x02 ∷ []);
+    }
+    ∷ []

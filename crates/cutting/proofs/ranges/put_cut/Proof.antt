@@ -7,7 +7,8 @@ use borrow.Author.Tests.{le-leb, lt-leb}
 use Rattle.table.specs.Code.{lent}
 use Rattle.cutting.specs.Cutting.{cut}
 use Rattle.cutting.specs.Code.{cutOf}
-use Rattle.cutting.proofs.Parts.{own-length, within-limits}
+use Rattle.cutting.proofs.Limits.{within-limits}
+use Rattle.cutting.proofs.Parts.{own-length}
 use Rattle.cutting.proofs.ranges.put_cut.Statement.{statement}
 use Rattle.cutting.proofs.ranges.put_cut.Tie as tie
 

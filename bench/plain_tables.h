@@ -1,0 +1,16 @@
+#ifndef PLAIN_TABLES_H
+#define PLAIN_TABLES_H
+
+#include <stddef.h>
+#include <stdint.h>
+
+/* 0, or the refusal: 1 for wrong sizes, 2 for items that do not rise or the time 2^64-1. */
+uint64_t plain_check_table(const uint64_t *times, size_t n, const uint8_t *ids, size_t id_bytes);
+
+/* The same, with ids compared by words instead of memcmp. */
+uint64_t plain_check_table_words(const uint64_t *times, size_t n, const uint8_t *ids, size_t id_bytes);
+
+/* The sum of the ids modulo 2^256, least significant word first, and their number. The ids have 32 bytes each. */
+void plain_label(const uint8_t *ids, size_t id_bytes, uint64_t sum[4], uint64_t *count);
+
+#endif

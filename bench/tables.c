@@ -8,9 +8,9 @@
 
 #include "plain_tables.h"
 
-/* The proved code. The label is the sum's four words, least significant first, then the count. */
+/* The proved code. A sum is four words, least significant first. */
 uint64_t bench_check_table(const uint64_t *times, size_t n, const uint8_t *ids, size_t id_bytes);
-void bench_label(const uint8_t *ids, size_t id_bytes, uint64_t *out, size_t out_len);
+void bench_label(const uint8_t *ids, size_t id_bytes, uint64_t sum[4], uint64_t *count);
 
 enum { ITEMS = 1 << 20, ID_BYTES = 32 * ITEMS, TURNS = 15 };
 enum { PROVED, PLAIN, READING, WORDS, WAYS };
@@ -31,7 +31,7 @@ static void check_words(const uint64_t *times, const uint8_t *ids, uint64_t out[
 
 static void label_proved(const uint64_t *times, const uint8_t *ids, uint64_t out[5]) {
     (void)times;
-    bench_label(ids, ID_BYTES, out, 5);
+    bench_label(ids, ID_BYTES, out, out + 4);
 }
 
 static void label_plain(const uint64_t *times, const uint8_t *ids, uint64_t out[5]) {

@@ -17,7 +17,8 @@ use Rattle.theory.proofs.Standard.{sizes-fit}
 use Rattle.message.specs.declared.Bound as B
 use Rattle.message.specs.declared.Payload.{Payload}
 use Rattle.writer.specs.Writing.{taken, refused}
-use Rattle.writer.specs.Stream.{Handed, State, HandsOver}
+use Rattle.writer.specs.Stream.{Handed, State}
+use Rattle.writer.specs.Handover.{HandsOver}
 use Rattle.writer.proofs.Handover.{hands-none, hands-then, hands-stop}
 use Rattle.label.specs.Label as L
 use Rattle.label.specs.Code.{wholeIds}
@@ -25,7 +26,7 @@ use Rattle.label.proofs.Hashing.{fingerprint-whole}
 use Rattle.table.specs.Table.{Item, Table, items, idsOf}
 use Rattle.table.specs.Private.{Passed, itemAt}
 use Rattle.table.proofs.Items.{right-size, items-length, items-at, ids-slice}
-use Rattle.cutting.specs.Code.{upperOf, Inside}
+use Rattle.cutting.specs.Private.{upperOf, Inside}
 use Rattle.cutting.specs.declared.Span.{Span}
 use Rattle.cutting.proofs.Sizes.{sizes-from, sizes-end}
 use Rattle.cutting.specs.Cutting.{shortest, fingerprintOf, nth, innerBound, fingerprintRanges}

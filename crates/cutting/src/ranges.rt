@@ -20,12 +20,14 @@ ghost use Rattle.message.specs.Code.{boundOf};
 ghost use Rattle.theory.specs.Cutting.{split};
 ghost use Rattle.theory.specs.Standard.{sizes};
 ghost use Rattle.writer.specs.Private.{Lawful};
-ghost use Rattle.writer.specs.Stream.{before, after, HandsOver};
+ghost use Rattle.writer.specs.Stream.{before};
+ghost use Rattle.writer.specs.Handover.{after, HandsOver};
 ghost use Rattle.table.specs.Table.{idsOf, items};
 ghost use Rattle.table.specs.Code.{lent};
 ghost use Rattle.table.specs.Private.{Passed, itemAt};
 ghost use Rattle.cutting.specs.Cutting as spec;
-ghost use Rattle.cutting.specs.Code.{cutOf, run, ownIn, upperOf, Inside};
+ghost use Rattle.cutting.specs.Code.{cutOf};
+ghost use Rattle.cutting.specs.Private.{run, ownIn, upperOf, Inside};
 
 // One range with all own ids of the span, in table order.
 pub fn put_ids(

@@ -17,7 +17,8 @@ use Rattle.message.specs.declared.Payload as P
 use Rattle.message.proofs.Exact.{byTest, differ}
 use Rattle.message.proofs.Tidying.{waiting, lastUpper, write-skip, write-more}
 use Rattle.writer.specs.Writing.{Verdict, taken, refused, judge, lay, started, lowerOf, lawful, inside, moreBytes, verdict, moved}
-use Rattle.writer.specs.Stream.{Handed, meant, State, before, handAfter, handOver, Fit, HandsOver}
+use Rattle.writer.specs.Stream.{Handed, meant, State, before, handAfter, handOver}
+use Rattle.writer.specs.Handover.{Fit, HandsOver}
 use Rattle.writer.specs.Private.{Lawful, Inside}
 use Rattle.writer.specs.declared.write.Writer.{Writer}
 use Rattle.writer.proofs.Steps.{ready}

@@ -9,7 +9,8 @@ use Rattle.message.specs.WellFormed.{All}
 use Rattle.message.specs.Code.{rangeOf}
 use Rattle.message.proofs.Exact.{differ}
 use Rattle.writer.specs.Writing.{Verdict, taken, refused, verdictOf, verdict, moved, next, outAfter}
-use Rattle.writer.specs.Stream.{Handed, meant, State, before, handAfter, handOver, after, Fit, HandsOver}
+use Rattle.writer.specs.Stream.{Handed, meant, State, before, handAfter, handOver}
+use Rattle.writer.specs.Handover.{after, Fit, HandsOver}
 use Rattle.writer.specs.declared.write.Writer.{Writer}
 use Rattle.writer.specs.declared.write.Write.{Write}
 use Rattle.writer.proofs.Steps.{next-taken}

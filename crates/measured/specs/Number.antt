@@ -1,5 +1,4 @@
 -- What the functions that bench/ measures answer.
-use mathlib.Core.List.{List, [], _∷_}
 use Prim.Native.Nat.{ℕ}
 use Rattle.table.specs.Answer.{Answer, answer, refused}
 

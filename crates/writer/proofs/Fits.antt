@@ -1,10 +1,10 @@
 -- Ranges that a message can carry are refused only for lack of room, and exactly where their message is longer than the out buffer.
 use Prim.Native.Nat.{ℕ, _+_, _≤_, _<_}
 use mathlib.Core.Path.{_≡_, refl, sym, ap, _∙_}
-use mathlib.Core.Bool.{Bool, true, false, cond}
+use mathlib.Core.Bool.{Bool, true, false}
 use mathlib.Core.List.{List, [], _∷_, _++_, append-nil, append-assoc}
 use native.Mathlib.Omega.{arith}
-use lib.Dec.{leb, ltb}
+use lib.Dec.{leb}
 use lib.ListN.{length, drop, length-append}
 use borrow.Author.Tests.{leb-true, leb-false, le-leb, lt-leb, lt-ltb}
 use Rattle.message.specs.Bound.{key, start}
@@ -14,7 +14,7 @@ use Rattle.message.specs.WellFormed.{All, Rising}
 use Rattle.message.specs.Code.{boundOf, rangeOf}
 use Rattle.message.specs.declared.Bound as B
 use Rattle.message.specs.declared.Payload as P
-use Rattle.message.proofs.Exact.{byTest, differ}
+use Rattle.message.proofs.Exact.{byTest}
 use Rattle.message.proofs.Tidying.{waiting, lastUpper, write-skip, write-more}
 use Rattle.writer.specs.Writing.{Verdict, taken, refused, judge, lay, started, lowerOf, lawful, inside, moreBytes, verdict, moved}
 use Rattle.writer.specs.Stream.{Handed, meant, State, before, handAfter, handOver}

@@ -1,9 +1,7 @@
 -- `session::fingerprint::fingerprint` meets its contract.
-use mathlib.Core.Path.{_≡_, sym, _∙_}
-use mathlib.Core.Bool.{true, false}
+use mathlib.Core.Path.{sym, _∙_}
 use borrow.Author.Needs.{needs}
 use borrow.Author.Tests.{not-true, not-false}
-use Rattle.writer.specs.Writing.{lawful}
 use Rattle.table.specs.Code.{lent}
 use Rattle.table.specs.Table.{Table}
 use Rattle.table.specs.Private.{Passed}

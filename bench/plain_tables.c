@@ -46,8 +46,8 @@ uint64_t plain_check_table_words(const uint64_t *times, size_t n, const uint8_t 
     return n > 0 && times[n - 1] == UINT64_MAX ? 2 : 0;
 }
 
-/* Four words with carry. Of the ways tried the fastest under gcc -O2, which makes an add and three adc of it; two sums of 128 bits take
-   about 3 % longer, and __builtin_add_overflow word by word 25 %. */
+/* Four words with carry, of which gcc -O2 makes an add and three adc. Two sums of 128 bits, and __builtin_add_overflow word by word, were
+   slower. */
 void plain_label(const uint8_t *ids, size_t id_bytes, uint64_t sum[4], uint64_t *count) {
     unsigned long long a = 0, b = 0, c = 0, d = 0;
     const uint8_t *end = ids + id_bytes;

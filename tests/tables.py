@@ -1,4 +1,4 @@
-"""Tables, fingerprints, cutting and writing: another implementation, written from the paper, simple and slow.
+"""Tables, fingerprints, cutting and writing: another implementation, simple and slow, which does not follow the proved code.
 
 An item is (time, id). A bound is as in tests/message.py, with its prefix as spelled. A range is (upper bound, mode, payload), the payload
 being None for skip, 16 bytes for fingerprint and a list of ids for ids."""

@@ -4,23 +4,19 @@ use mathlib.Core.Bool.{_&&_}
 use mathlib.Core.List.{List, [], _∷_}
 use Rattle.message.specs.Bound.{Bound, key, start}
 use Rattle.message.specs.Message.{Payload, skip, fingerprint, ids, Range, range}
-use Rattle.message.specs.WellFormed.{WellFormed}
 use Rattle.message.specs.Meaning.{isSkip, prepend, tidy}
 use Rattle.message.proofs.Exact.{byTest}
 use Rattle.theory.specs.Message as T
 use Rattle.theory.specs.Rounds.{Cut}
 use Rattle.theory.specs.Ends as theory
-use Rattle.theory.proofs.Messages.{Rises, tidy-skips}
+use Rattle.theory.proofs.Messages.{tidy-skips}
 use Rattle.table.specs.Lists.{every}
 use Rattle.table.specs.Table.{Table, items}
 use Rattle.cutting.proofs.Projection.{protocol, payload, project}
 use Rattle.ends.specs.Responder.{reply}
 use Rattle.ends.specs.Opener.{firstQuery, nextQuery, skipsOnly}
 use Rattle.ends.proofs.Tables.{Kept, endOf}
-use Rattle.ends.proofs.Ranges.{key-start, rising-projects, first-cut, gives-own, gives-none, made-projects}
-
-pub project-rises : (rs : List Range) → WellFormed rs → Rises 0 (project rs)
-project-rises rs h = rw key-start at (rising-projects start rs h)
+use Rattle.ends.proofs.Ranges.{first-cut, gives-own, gives-none, made-projects}
 
 -- ---- tidying
 

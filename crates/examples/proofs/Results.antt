@@ -1,21 +1,68 @@
 -- The table of examples holds of the definitions, all rows together.
 use mathlib.Core.Path.{_≡_, refl}
-use mathlib.Core.List.{[], map, flatten, zipWith}
+use mathlib.Core.Bool.{true, false}
+use mathlib.Core.List.{List, [], _∷_, _++_, map, flatten, foldr, zipWith}
+use Prim.Native.Nat.{ℕ}
 use Rattle.message.specs.Reader.{read, refused, readBytes}
 use Rattle.message.specs.Varint.{readDigits, readVarint, digitsBefore, spellVarint}
 use Rattle.message.specs.Code.{idsIn}
 use Rattle.message.specs.Bound.{infinity, bigEndian, idSpace, key, readPrefix, readCoded, readBound, spellPrefix, spellBound}
 use Rattle.message.specs.Message.{readIds, readOfMode, readPayload, readRange, readRanges, readMessage, spellPayload, spellRange, spellRanges, spellMessage}
 use Rattle.message.specs.Meaning.{isSkip, prepend, tidy, writeMessage}
-use lib.ListN.{length}
+use lib.ListN.{length, replicate}
 use Rattle.theory.specs.Standard.{sizes}
 use Rattle.theory.specs.Cutting.{split}
-use Rattle.table.specs.Table.{items}
+use Rattle.table.specs.Answer.{answer}
+use Rattle.table.specs.Lists.{keep, every, rising}
+use Rattle.table.specs.Table.{keyOf, items, wrongSize, notRising, within}
 use Rattle.sha256.specs.Fips180.{digest}
 use Rattle.label.specs.Label as L
 use Rattle.label.specs.Label.{littleEndian, total, labelOf, lowBytes, hashed}
-use Rattle.cutting.specs.Cutting.{fingerprintOf, shared, shortest, innerBound, fingerprintRanges, cut}
-use Rattle.examples.specs.Table.{Varint, varints, Refused, refusals, Message, messages, merged, Neighbours, neighbours, Division, divisions, Opening, openings, Labelled, labels}
+use Rattle.cutting.specs.Cutting.{fingerprintOf, shared, shortest, outsideLimits, innerBound, fingerprintRanges, cut}
+use Rattle.ends.specs.Lists.{some, same, overwrite}
+use Rattle.ends.specs.Calls.{Result, eachRange}
+use Rattle.ends.specs.Responder.{compare, treat, reply, answered}
+use Rattle.ends.specs.Opener.{Lent, wrongBuffers, wrongContents, firstQuery, begin, opened, nextQuery, written, unlisted, marksAfter, unowned, insert, neededAfter, conclude, taken}
+use Rattle.examples.specs.Table.{Varint, varints, Refused, refusals, Message, messages, merged, Neighbours, neighbours, Division, divisions, Opening, openings, Answering, answers, Taking, takes, Labelled, labels}
+
+-- an out buffer of just the size that is needed, and marks that are to become 0
+abbrev beforeOpening : Opening → Lent
+beforeOpening e = record {
+  session = record { marked = 0; needed = 0; done = true };
+  marks = replicate (length (e .table .times)) 0xEE;
+  needed = [];
+  out = replicate (e .size) 0xEE;
+}
+
+abbrev afterOpening : Opening → Result Lent
+afterOpening e = record {
+  answer = answer (e .size);
+  lent = record {
+    session = record { marked = 0; needed = 0; done = false };
+    marks = replicate (length (e .table .times)) 0;
+    needed = [];
+    out = e .message;
+  };
+}
+
+-- one byte of the out buffer is left
+abbrev afterAnswer : Answering → Result (List ℕ)
+afterAnswer e = record { answer = answer 5; lent = e .reply ++ (0xEE ∷ []) }
+
+-- nothing is written, so that no out buffer is needed
+abbrev beforeTake : Taking → Lent
+beforeTake e = record {
+  session = record { marked = 0; needed = 0; done = false };
+  marks = replicate (length (e .table .times)) 0;
+  needed = [];
+  out = [];
+}
+
+abbrev afterTake : Taking → Result Lent
+afterTake e = record {
+  answer = answer 0;
+  lent = record { session = record { marked = e .marked; needed = 0; done = true }; marks = e .marks; needed = []; out = [] };
+}
 
 pub table :
     (map (λ (e : Varint). spellVarint (e .value)) varints ≡ map (λ (e : Varint). e .bytes) varints)
@@ -26,9 +73,10 @@ pub table :
     × (map (λ (e : Message). writeMessage (e .ranges)) merged ≡ map (λ (e : Message). e .bytes) merged)
     × (map (λ (e : Neighbours). shortest (e .first) (e .second)) neighbours ≡ map (λ (e : Neighbours). e .bound) neighbours)
     × (map (λ (e : Division). sizes (e .parts) (e .items)) divisions ≡ map (λ (e : Division). e .sizes) divisions)
-    × (map (λ (e : Opening). writeMessage (cut (e .cut) (items (e .table)) infinity)) openings ≡ map (λ (e : Opening). e .message) openings)
-    × (map (λ (e : Opening). length (e .message)) openings ≡ map (λ (e : Opening). e .size) openings)
+    × (map (λ (e : Opening). opened (e .table) (e .cut) (beforeOpening e)) openings ≡ map afterOpening openings)
+    × (map (λ (e : Answering). answered (e .table) (e .cut) (e .query) (replicate 6 0xEE)) answers ≡ map afterAnswer answers)
+    × (map (λ (e : Taking). taken (e .table) (e .cut) (e .reply) (beforeTake e)) takes ≡ map afterTake takes)
     × (map (λ (e : Labelled). labelOf (e .ids)) labels ≡ map (λ (e : Labelled). e .label) labels)
     × (map (λ (e : Labelled). hashed (e .label)) labels ≡ map (λ (e : Labelled). e .hashed) labels)
-unfolding readMessage readRanges readRange readBound readCoded readPrefix readPayload readOfMode readIds readVarint readDigits readBytes key bigEndian idSpace writeMessage tidy prepend isSkip spellMessage spellRanges spellRange spellBound spellPrefix spellPayload spellVarint digitsBefore flatten sizes split shared shortest innerBound fingerprintRanges cut items idsIn zipWith littleEndian total labelOf lowBytes hashed fingerprintOf L.fingerprint digest
-table = (refl, refl, refl, refl, refl, refl, refl, refl, refl, refl, refl, refl)
+unfolding readMessage readRanges readRange readBound readCoded readPrefix readPayload readOfMode readIds readVarint readDigits readBytes key bigEndian idSpace writeMessage tidy prepend isSkip spellMessage spellRanges spellRange spellBound spellPrefix spellPayload spellVarint digitsBefore flatten sizes split shared shortest innerBound fingerprintRanges cut items idsIn zipWith littleEndian total labelOf lowBytes hashed fingerprintOf L.fingerprint digest keep every rising keyOf wrongSize notRising within outsideLimits some same overwrite eachRange compare treat reply answered wrongBuffers wrongContents firstQuery begin opened nextQuery written unlisted marksAfter unowned insert neededAfter conclude taken
+table = (refl, refl, refl, refl, refl, refl, refl, refl, refl, refl, refl, refl, refl)

@@ -11,7 +11,15 @@ abbrev pub numberOf : Refusal → ℕ
 numberOf Refusal.TableSize = 1
 numberOf Refusal.TableOrder = 2
 numberOf Refusal.CutLimits = 3
+numberOf Refusal.WrongState = 4
+numberOf Refusal.SessionDone = 5
+numberOf Refusal.WrongVersion = 6
+numberOf Refusal.Truncated = 7
+numberOf Refusal.BadVarint = 8
 numberOf Refusal.BadBound = 9
+numberOf Refusal.BadMode = 10
+numberOf Refusal.NeededFull = 11
+numberOf Refusal.NoRoom = 12
 
 abbrev pub checkedOf : Checked → Answer (Unit {0})
 checkedOf Checked.Passed = answer tt

@@ -55,7 +55,7 @@ fn later_words_below(a: &[u8], b: &[u8]) -> bool
 }
 
 // Whether the id at the start of a comes before the id at the start of b. Most ids differ in their first eight bytes.
-pub(crate) fn id_below(a: &[u8], b: &[u8]) -> bool
+pub fn id_below(a: &[u8], b: &[u8]) -> bool
     requires { ⌜ (32 ≤ length (now a)) × (32 ≤ length (now b)) ⌝ }
     ensures { λ r. ⌜ r ≡ ltb (bigEndian 32 (now (a .entry))) (bigEndian 32 (now (b .entry))) ⌝ }
 {

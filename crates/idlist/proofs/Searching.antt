@@ -1,0 +1,69 @@
+-- Comparing byte by byte, and searching id by id.
+use Prim.Native.Nat.{ℕ, zero, suc, _+_, _-_, _*_, _≤_, _<_}
+use mathlib.Core.Path.{_≡_, refl, sym, ap, _∙_}
+use mathlib.Core.Bool.{Bool, true, false, _&&_, _||_}
+use mathlib.Core.List.{List, [], _∷_}
+use native.Mathlib.Omega.{arith}
+use lib.Dec.{eqb}
+use lib.ListN.{length, take, drop, getD, drop-of-length-le}
+use lib.Seq.{drop-cons, drop-drop}
+use borrow.Author.Tests.{eq-eqb, ne-eqb}
+use Rattle.message.specs.Code.{idsIn}
+use Rattle.ends.specs.Lists.{some, same}
+
+and-false : (b : Bool) → (b && false) ≡ false
+and-false true = refl
+and-false false = refl
+
+-- ---- bytes
+
+pub other-length : (p q : List ℕ) → (length p ≡ length q → ⊥) → false ≡ same p q
+unfolding same
+other-length [] [] h = absurd (h refl)
+other-length [] (y ∷ q) h = refl
+other-length (x ∷ p) [] h = refl
+other-length (x ∷ p) (y ∷ q) h = rw (← other-length p q (λ e. h (ap suc e))) (sym (and-false (eqb x y)))
+
+module _ (p q : List ℕ) (i : ℕ) where
+  next : i < length p → i < length q → same (drop i p) (drop i q) ≡ (eqb (getD p i 0) (getD q i 0) && same (drop (suc i) p) (drop (suc i) q))
+  unfolding same
+  next h k = rw (drop-cons p i 0 h, drop-cons q i 0 k) refl
+
+  pub other-byte : i < length p → i < length q → (getD p i 0 ≡ getD q i 0 → ⊥) → same (drop i p) (drop i q) ≡ false
+  other-byte h k d = next h k ∙ rw (ne-eqb (getD p i 0) (getD q i 0) d) refl
+
+  pub same-byte : i < length p → i < length q → getD p i 0 ≡ getD q i 0 → same (drop i p) (drop i q) ≡ same (drop (i + 1) p) (drop (i + 1) q)
+  same-byte h k e =
+      let one : suc i ≡ i + 1 = omega arith in
+      next h k ∙ rw (eq-eqb (getD p i 0) (getD q i 0) e, one) refl
+
+  pub no-byte : length p ≤ i → length q ≤ i → same (drop i p) (drop i q) ≡ true
+  unfolding same
+  no-byte h k = rw (drop-of-length-le p h, drop-of-length-le q k) refl
+
+-- ---- ids
+
+-- the search from place i on
+abbrev pub left : List ℕ → List ℕ → ℕ → ℕ → Bool
+left d list count i = some (same d) (idsIn (count - i) (drop (i * 32) list))
+
+pub all-left : (d list : List ℕ) (count : ℕ) → some (same d) (idsIn count list) ≡ left d list count 0
+all-left d list count = let e : count - 0 ≡ count = omega arith in rw e refl
+
+module _ (d list : List ℕ) (count i : ℕ) where
+  more : i < count → left d list count i ≡ (same d (take 32 (drop (i * 32) list)) || left d list count (i + 1))
+  unfolding some idsIn
+  more h =
+      let e : count - i ≡ suc (count - (i + 1)) = omega arith in
+      let f : i * 32 + 32 ≡ (i + 1) * 32 = omega arith in
+      rw (e, drop-drop 32 (i * 32) list, f) refl
+
+  pub id-found : i < count → same d (take 32 (drop (i * 32) list)) ≡ true → left d list count i ≡ true
+  id-found h e = more h ∙ rw e refl
+
+  pub id-other : i < count → same d (take 32 (drop (i * 32) list)) ≡ false → left d list count i ≡ left d list count (i + 1)
+  id-other h e = more h ∙ rw e refl
+
+  pub no-id : count ≤ i → left d list count i ≡ false
+  unfolding some idsIn
+  no-id h = let e : count - i ≡ 0 = omega arith in rw e refl

@@ -1,0 +1,40 @@
+// Ids in byte strings, 32 bytes each. For our own crates.
+ghost use Prim.Native.Nat.{_*_, _≤_};
+ghost use mathlib.Core.Path.{_≡_};
+ghost use lib.ListN.{length, take};
+ghost use Rattle.message.specs.Code.{idsIn};
+ghost use Rattle.ends.specs.Lists.{some, same};
+
+// Whether two slices hold the same bytes.
+pub fn same_bytes(p: &[u8], q: &[u8]) -> bool
+    ensures { λ r. ⌜ r ≡ same (now (p .entry)) (now (q .entry)) ⌝ }
+{
+    if p.len() != q.len() {
+        return false;
+    }
+    let mut i = 0;
+    while i < p.len() {
+        if p[i] != q[i] {
+            return false;
+        }
+        i += 1;
+    }
+    true
+}
+
+// Whether the id that begins a slice is one of the `count` ids that begin another.
+pub fn contains(list: &[u8], count: usize, id: &[u8]) -> bool
+    requires { ⌜ (count * 32 ≤ length (now list)) × (32 ≤ length (now id)) ⌝ }
+    ensures { λ r. ⌜ r ≡ some (same (take 32 (now (id .entry)))) (idsIn count (now (list .entry))) ⌝ }
+{
+    let mut i = 0;
+    while i < count {
+        let at = i * 32;
+        let end = at + 32;
+        if same_bytes(&id[..32], &list[at..end]) {
+            return true;
+        }
+        i += 1;
+    }
+    false
+}

@@ -1,0 +1,2 @@
+-- For our own crates: what ranges add to the needed list.
+pub mod Adding

@@ -2,7 +2,7 @@
 use mathlib.Core.Path.{_≡_, refl, ap, _∙_}
 use mathlib.Core.Bool.{_&&_}
 use mathlib.Core.List.{List, [], _∷_}
-use Rattle.message.specs.Bound.{Bound, key, start}
+use Rattle.message.specs.Bound.{Bound, key}
 use Rattle.message.specs.Message.{Payload, skip, fingerprint, ids, Range, range}
 use Rattle.message.specs.Meaning.{isSkip, prepend, tidy}
 use Rattle.message.proofs.Exact.{byTest}

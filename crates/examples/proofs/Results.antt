@@ -1,12 +1,12 @@
 -- The table of examples holds of the definitions, all rows together.
 use mathlib.Core.Path.{_≡_, refl}
 use mathlib.Core.Bool.{true, false}
-use mathlib.Core.List.{List, [], _∷_, _++_, map, flatten, foldr, zipWith}
+use mathlib.Core.List.{List, [], _∷_, _++_, map, flatten, zipWith}
 use Prim.Native.Nat.{ℕ}
 use Rattle.message.specs.Reader.{read, refused, readBytes}
 use Rattle.message.specs.Varint.{readDigits, readVarint, digitsBefore, spellVarint}
 use Rattle.message.specs.Code.{idsIn}
-use Rattle.message.specs.Bound.{infinity, bigEndian, idSpace, key, readPrefix, readCoded, readBound, spellPrefix, spellBound}
+use Rattle.message.specs.Bound.{bigEndian, idSpace, key, readPrefix, readCoded, readBound, spellPrefix, spellBound}
 use Rattle.message.specs.Message.{readIds, readOfMode, readPayload, readRange, readRanges, readMessage, spellPayload, spellRange, spellRanges, spellMessage}
 use Rattle.message.specs.Meaning.{isSkip, prepend, tidy, writeMessage}
 use lib.ListN.{length, replicate}

@@ -1,11 +1,6 @@
 -- `exchange::send::query_fits` meets its contract.
-use mathlib.Core.Path.{_≡_, refl, sym, ap, _∙_}
-use mathlib.Core.List.{List}
-use Prim.Native.Nat.{ℕ}
+use mathlib.Core.Path.{refl, sym, _∙_}
 use borrow.Author.Needs.{needs}
-use lib.Dec.{leb}
-use lib.ListN.{length}
-use Rattle.message.specs.Meaning.{writeMessage}
 use Rattle.exchange.proofs.Sending.{written-done, written-more, nothing-fits, made-query}
 use Rattle.exchange.proofs.send.query_fits.Statement.{statement}
 use Rattle.exchange.proofs.send.query_fits.Tie as tie

@@ -1,5 +1,5 @@
 -- `exchange::treat::put_reply` meets its contract. The invariant: what the ranges up to the walk become is handed over.
-use Prim.Native.Nat.{_-_, _<_}
+use Prim.Native.Nat.{_-_}
 use mathlib.Core.Path.{_≡_, refl, ap, _∙_}
 use mathlib.Core.List.{flatten}
 use native.Mathlib.Omega.{arith}

@@ -1,7 +1,197 @@
-// The functions that C and Rust call, declared for C in include/recon.h.
+// The calls for C and Rust, declared for C in include/recon.h: those of `session` on numbers and slices, with the same equations as their contracts.
+use cutting::Cut;
+use message::Bound;
+use session::Outcome;
+use session::fingerprint::fingerprint;
+use session::opener::open_session;
+use session::opener::take_reply;
+use session::responder::answer_query;
+use table::Checked;
+ghost use Prim.Native.Nat.{ℕ};
 ghost use mathlib.Core.Path.{_≡_};
+ghost use lib.ListN.{length};
 ghost use Rattle.sha256.specs.Fips180.{digest};
+ghost use Rattle.table.specs.Code.{lent};
+ghost use Rattle.ends.specs.Opener.{opened, taken};
+ghost use Rattle.ends.specs.Responder.{answered};
+ghost use Rattle.session.specs.Code.{outcomeOf};
+ghost use Rattle.session.specs.Fingerprint.{fingerprintBetween};
+ghost use Rattle.capi.specs.Calls.{cutBy, lentTo, noSession, told, toldWith, boundBy, numberIn, bytesIn};
 
+// How many marks are 1, how many ids are needed, and whether the session is done.
+#[repr(C)]
+pub struct Session {
+    pub marked: usize,
+    pub needed: usize,
+    pub done: bool,
+}
+
+// The number of the refusal, 0 for none, and the length of the message that was written.
+#[repr(C)]
+pub struct Answer {
+    pub refusal: u64,
+    pub length: usize,
+}
+
+// The same, and the session afterwards.
+#[repr(C)]
+pub struct SessionAnswer {
+    pub refusal: u64,
+    pub length: usize,
+    pub session: Session,
+}
+
+// An outcome in numbers.
+fn tell(outcome: Outcome) -> Answer
+    ensures { λ r. ⌜ r ≡ told (outcomeOf outcome) ⌝ }
+{
+    match outcome {
+        Outcome::Written { length } => Answer { refusal: 0, length },
+        Outcome::Refused { refusal } => Answer {
+            refusal: refusal.number(),
+            length: 0,
+        },
+    }
+}
+
+// A bound with a prefix of `len` bytes.
+fn bound(infinite: bool, time: u64, len: usize) -> Bound
+    ensures { λ r. ⌜ r ≡ boundBy infinite time len ⌝ }
+{
+    if !infinite {
+        return Bound::At { time, len };
+    }
+    if len == 0 {
+        return Bound::Infinity;
+    }
+    Bound::At {
+        time: 18446744073709551615,
+        len,
+    }
+}
+
+// Opens a session.
+#[no_mangle]
+pub extern "C" fn recon_open(
+    times: &[u64],
+    ids: &[u8],
+    parts: usize,
+    limit: usize,
+    marks: &mut [u8],
+    needed: &[u8],
+    out: &mut [u8],
+) -> SessionAnswer
+    ensures { λ r. ⌜ r ≡ toldWith (opened (lent (now (times .entry)) (now (ids .entry))) (cutBy parts limit) (lentTo noSession (now (marks .entry)) (now (needed .entry)) (now (out .entry)))) ⌝ }
+    ensures { λ _. ⌜ now (marks .exit) ≡ opened (lent (now (times .entry)) (now (ids .entry))) (cutBy parts limit) (lentTo noSession (now (marks .entry)) (now (needed .entry)) (now (out .entry))) .lent .marks ⌝ }
+    ensures { λ _. ⌜ now (out .exit) ≡ opened (lent (now (times .entry)) (now (ids .entry))) (cutBy parts limit) (lentTo noSession (now (marks .entry)) (now (needed .entry)) (now (out .entry))) .lent .out ⌝ }
+{
+    let opened = open_session(times, ids, Cut { parts, limit }, marks, needed, out);
+    let outcome = opened.outcome;
+    let answer = tell(outcome);
+    SessionAnswer {
+        refusal: answer.refusal,
+        length: answer.length,
+        session: Session {
+            marked: opened.session.marked,
+            needed: opened.session.needed,
+            done: opened.session.done,
+        },
+    }
+}
+
+// Answers a query.
+#[no_mangle]
+pub extern "C" fn recon_answer(
+    times: &[u64],
+    ids: &[u8],
+    parts: usize,
+    limit: usize,
+    query: &[u8],
+    out: &mut [u8],
+) -> Answer
+    ensures { λ r. ⌜ r ≡ told (answered (lent (now (times .entry)) (now (ids .entry))) (cutBy parts limit) (now (query .entry)) (now (out .entry)) .answer) ⌝ }
+    ensures { λ _. ⌜ now (out .exit) ≡ answered (lent (now (times .entry)) (now (ids .entry))) (cutBy parts limit) (now (query .entry)) (now (out .entry)) .lent ⌝ }
+{
+    tell(answer_query(times, ids, Cut { parts, limit }, query, out))
+}
+
+// Takes a reply.
+#[no_mangle]
+pub extern "C" fn recon_take(
+    times: &[u64],
+    ids: &[u8],
+    parts: usize,
+    limit: usize,
+    reply: &[u8],
+    session: Session,
+    marks: &mut [u8],
+    needed: &mut [u8],
+    out: &mut [u8],
+) -> SessionAnswer
+    ensures { λ r. ⌜ r ≡ toldWith (taken (lent (now (times .entry)) (now (ids .entry))) (cutBy parts limit) (now (reply .entry)) (lentTo session (now (marks .entry)) (now (needed .entry)) (now (out .entry)))) ⌝ }
+    ensures { λ _. ⌜ now (marks .exit) ≡ taken (lent (now (times .entry)) (now (ids .entry))) (cutBy parts limit) (now (reply .entry)) (lentTo session (now (marks .entry)) (now (needed .entry)) (now (out .entry))) .lent .marks ⌝ }
+    ensures { λ _. ⌜ now (needed .exit) ≡ taken (lent (now (times .entry)) (now (ids .entry))) (cutBy parts limit) (now (reply .entry)) (lentTo session (now (marks .entry)) (now (needed .entry)) (now (out .entry))) .lent .needed ⌝ }
+    ensures { λ _. ⌜ now (out .exit) ≡ taken (lent (now (times .entry)) (now (ids .entry))) (cutBy parts limit) (now (reply .entry)) (lentTo session (now (marks .entry)) (now (needed .entry)) (now (out .entry))) .lent .out ⌝ }
+{
+    let before = session::opener::Session {
+        marked: session.marked,
+        needed: session.needed,
+        done: session.done,
+    };
+    let taken = take_reply(
+        times,
+        ids,
+        Cut { parts, limit },
+        reply,
+        before,
+        marks,
+        needed,
+        out,
+    );
+    let outcome = taken.outcome;
+    let answer = tell(outcome);
+    SessionAnswer {
+        refusal: answer.refusal,
+        length: answer.length,
+        session: Session {
+            marked: taken.session.marked,
+            needed: taken.session.needed,
+            done: taken.session.done,
+        },
+    }
+}
+
+// The fingerprint of the items from a lower bound up to an upper one: 0 and the 16 bytes, or the number of the refusal and no byte changed.
+#[no_mangle]
+pub extern "C" fn recon_fingerprint(
+    times: &[u64],
+    ids: &[u8],
+    lower_infinite: bool,
+    lower_time: u64,
+    lower_prefix: &[u8],
+    upper_infinite: bool,
+    upper_time: u64,
+    upper_prefix: &[u8],
+    out: &mut [u8; 16],
+) -> u64
+    ensures { λ r. ⌜ r ≡ numberIn (fingerprintBetween (lent (now (times .entry)) (now (ids .entry))) (boundBy «lower_infinite» «lower_time» (length (now («lower_prefix» .entry)))) (now («lower_prefix» .entry)) (boundBy «upper_infinite» «upper_time» (length (now («upper_prefix» .entry)))) (now («upper_prefix» .entry))) ⌝ }
+    ensures { λ _. ⌜ now (out .exit) ≡ bytesIn (fingerprintBetween (lent (now (times .entry)) (now (ids .entry))) (boundBy «lower_infinite» «lower_time» (length (now («lower_prefix» .entry)))) (now («lower_prefix» .entry)) (boundBy «upper_infinite» «upper_time» (length (now («upper_prefix» .entry)))) (now («upper_prefix» .entry))) (now (out .entry)) ⌝ }
+{
+    let lower = bound(lower_infinite, lower_time, lower_prefix.len());
+    let upper = bound(upper_infinite, upper_time, upper_prefix.len());
+    let answer = fingerprint(times, ids, lower, lower_prefix, upper, upper_prefix);
+    let checked = answer.checked;
+    let bytes = answer.bytes;
+    match checked {
+        Checked::Refused { refusal } => refusal.number(),
+        Checked::Passed => {
+            *out = bytes;
+            0
+        }
+    }
+}
+
+// SHA-256.
 #[no_mangle]
 pub extern "C" fn recon_sha256(m: &[u8], out: &mut [u8; 32])
     ensures { λ _. ⌜ now (out .exit) ≡ digest (now (m .entry)) ⌝ }

@@ -166,13 +166,15 @@ fn show(m: &[u8], at: usize, times: &[u64], ids: &[u8])
         limit: number(m, at + 5, 2) as usize,
     };
     show_message(times, ids, cut);
+    let lower_prefix = prefix(m, at + 18);
+    let upper_prefix = prefix(m, at + 61);
     let answer = fingerprint(
         times,
         ids,
         bound(m, at + 7),
-        prefix(m, at + 18),
+        &lower_prefix,
         bound(m, at + 50),
-        prefix(m, at + 61),
+        &upper_prefix,
     );
     let checked = answer.checked;
     let bytes = answer.bytes;

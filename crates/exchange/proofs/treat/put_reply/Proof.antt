@@ -44,7 +44,7 @@ step-requires : tie.Need-step-requires Inv-loop μ-loop
 step-requires c κs = let l = c .before .before .loop in (c .before .before .before .before .before .before .before .before .pre .0, l .inv .0 .walking, c .if1 .taken)
 
 put-treated-requires : tie.Need-put-treated-requires Inv-loop μ-loop
-put-treated-requires c κs = let s = c .before .before .before .before .before .before .before .before .before .before .before .before in let st = c .before .before .before .step .ensures in (s .pre .0, s .pre .1, st .span, st .payload)
+put-treated-requires c κs = let s = c .before .before .before .before .before .before .before .before .before .before .before .before in let st = c .before .before .before .step .ensures in (s .pre .0, s .pre .1, st .span, search (st .payload, tt))
 
 -- the range that was handed over
 one : (p : tie.After-put-treated Inv-loop μ-loop) → let s = p .before .before .before .before .before .before .before .before .before .before .before .before .before in let l = p .before .before .before .before .before .before .before .loop in let st = p .before .before .before .before .step .result in

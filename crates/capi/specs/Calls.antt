@@ -1,0 +1,53 @@
+-- The arguments of the calls for C and Rust, as those of the definitions, and what the calls answer.
+use mathlib.Core.Bool.{Bool, true, false, cond}
+use mathlib.Core.List.{List}
+use Prim.Native.Nat.{ℕ}
+use lib.Dec.{eqb}
+use lib.ListN.{length}
+use Rattle.message.specs.declared.Bound.{Bound}
+use Rattle.theory.specs.Rounds.{Cut}
+use Rattle.table.specs.Answer as A
+use Rattle.ends.specs.Calls.{Result}
+use Rattle.ends.specs.Opener as E
+use Rattle.capi.specs.declared.Session.{Session}
+use Rattle.capi.specs.declared.Answer.{Answer}
+use Rattle.capi.specs.declared.SessionAnswer.{SessionAnswer}
+
+abbrev pub cutBy : ℕ → ℕ → Cut
+cutBy parts limit = record { parts = parts; limit = limit }
+
+abbrev pub lentTo : Session → List ℕ → List ℕ → List ℕ → E.Lent
+lentTo s marks needed out = record { session = record { marked = s .marked; needed = s .needed; done = s .done }; marks = marks; needed = needed; out = out }
+
+-- an opening starts with no session: one that takes nothing
+abbrev pub noSession : Session
+noSession = record { marked = 0; needed = 0; done = true }
+
+-- the number of the refusal and no length; the number 0 and the length of the message
+abbrev pub told : A.Answer ℕ → Answer
+told (A.answer n) = record { refusal = 0; length = n }
+told (A.refused k) = record { refusal = k; length = 0 }
+
+-- the same, and the session as it is afterwards
+abbrev pub toldWith : Result E.Lent → SessionAnswer
+toldWith r =
+    record {
+      refusal = told (r .answer) .refusal;
+      length = told (r .answer) .length;
+      session = record { marked = r .lent .session .marked; needed = r .lent .session .needed; done = r .lent .session .done };
+    }
+
+-- A bound with a prefix of so many bytes. At infinity a prefix "meets 9", as the time 2^64 - 1 does, which stands in for it.
+abbrev pub boundBy : Bool → ℕ → ℕ → Bound
+boundBy true time len = cond (eqb len 0) Bound.Infinity (Bound.At 18446744073709551615 len)
+boundBy false time len = Bound.At time len
+
+-- the number of the refusal, or 0
+abbrev pub numberIn : A.Answer (List ℕ) → ℕ
+numberIn (A.answer bytes) = 0
+numberIn (A.refused k) = k
+
+-- the bytes, or what stood in their place
+abbrev pub bytesIn : A.Answer (List ℕ) → List ℕ → List ℕ
+bytesIn (A.answer bytes) before = bytes
+bytesIn (A.refused k) before = before

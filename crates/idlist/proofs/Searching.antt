@@ -6,10 +6,14 @@ use mathlib.Core.List.{List, [], _∷_}
 use native.Mathlib.Omega.{arith}
 use lib.Dec.{eqb}
 use lib.ListN.{length, take, drop, getD, drop-of-length-le}
-use lib.Seq.{drop-cons, drop-drop}
+use lib.Seq.{drop-cons, drop-drop, take-take}
 use borrow.Author.Tests.{eq-eqb, ne-eqb}
+use Rattle.message.specs.Bound.{bigEndian}
 use Rattle.message.specs.Code.{idsIn}
+use Rattle.message.proofs.Exact.{byTest}
+use Rattle.table.proofs.Words.{bigEndian-take}
 use Rattle.ends.specs.Lists.{some, same}
+use Rattle.ends.proofs.Tables.{same-true}
 
 and-false : (b : Bool) → (b && false) ≡ false
 and-false true = refl
@@ -42,6 +46,13 @@ module _ (p q : List ℕ) (i : ℕ) where
   no-byte h k = rw (drop-of-length-le p h, drop-of-length-le q k) refl
 
 -- ---- ids
+
+-- ids whose first words differ are not the same
+pub other-word : (d e : List ℕ) → (bigEndian 8 d ≡ bigEndian 8 e → ⊥) → same (take 32 d) (take 32 e) ≡ false
+other-word d e h = byTest (same (take 32 d) (take 32 e)) (λ p. absurd (h (sym (first-word d) ∙ ap (bigEndian 8) (same-true (take 32 d) (take 32 e) p) ∙ first-word e))) (λ p. p)
+  where
+    first-word : (l : List ℕ) → bigEndian 8 (take 32 l) ≡ bigEndian 8 l
+    first-word l = sym (bigEndian-take 8 (take 32 l)) ∙ ap (bigEndian 8) (take-take 8 32 l (omega arith)) ∙ bigEndian-take 8 l
 
 -- the search from place i on
 abbrev pub left : List ℕ → List ℕ → ℕ → ℕ → Bool

@@ -1,0 +1,307 @@
+-- The smallest ids so far, by their places: one more is offered, and the ids still to come become fewer.
+use Prim.Native.Nat.{ℕ, _+_, _-_, _*_, _≤_, _<_}
+use mathlib.Core.Path.{_≡_, refl, sym, ap, subst, _∙_}
+use mathlib.Core.Bool.{Bool, true, false, not, _&&_, _||_}
+use mathlib.Core.List.{List, [], _∷_, _++_, map}
+use mathlib.Core.Logic.{_⊎_, inl, inr, ⊎-elim}
+use native.Mathlib.Omega.{arith}
+use lib.Dec.{leb, ltb, eqb}
+use lib.ListN.{length, take, drop, getD, set}
+use lib.Seq.{getD-set-same, getD-set-other}
+use borrow.Author.Tests.{ltb-true, ltb-false, leb-true, leb-false, le-leb, eqb-true, eqb-false, eq-eqb}
+use Rattle.message.specs.Bound.{Bound, bigEndian}
+use Rattle.message.specs.Message.{ids}
+use Rattle.message.specs.Code.{idsIn}
+use Rattle.message.specs.declared.Payload.{Payload}
+use Rattle.message.proofs.Exact.{byTest, differ}
+use Rattle.theory.specs.Table.{has}
+use Rattle.theory.proofs.Tables.{has-cases, has-here, has-there}
+use Rattle.writer.proofs.Laying.{rest, rest-is}
+use Rattle.table.specs.Lists.{keep}
+use Rattle.table.specs.Table.{Table, items, within}
+use Rattle.table.proofs.Words.{bigEndian-take}
+use Rattle.table.proofs.Items.{ids-run}
+use Rattle.cutting.specs.Private.{ownIn, upperOf}
+use Rattle.cutting.specs.declared.Span.{Span}
+use Rattle.ends.specs.Lists.{some, same}
+use Rattle.ends.specs.Opener.{unowned}
+use Rattle.walk.specs.Walking.{lowerAt, Stepped}
+use Rattle.walk.specs.declared.Walk.{Walk}
+use Rattle.walk.specs.declared.Step.{Step}
+use Rattle.idlist.specs.Positions.{keyAt, Pointing}
+use Rattle.window.specs.Adding.{addedFrom}
+use Rattle.window.specs.Sorting.{Heap, Rearranged, Distinct}
+use Rattle.window.specs.Windows.{fromBy, Held, among, beyond, Placed, Offered, others, Gathering, Gathered, Windowed}
+use Rattle.window.proofs.Adding.{lacks, list-adds, unowned-is, rangeAdds, added-next, added-ends, listFrom, list-whole, list-none, list-next}
+use Rattle.window.proofs.Heaps.{same-key, pointing-kept, keys-kept, keys-from, heap-top}
+
+-- the ids as numbers
+abbrev numbers : List (List ℕ) → List ℕ
+numbers l = map (bigEndian 32) l
+
+-- ---- whether an id is wanted
+
+-- the id at place p is above the floor
+module _ (m : List ℕ) (first : Bool) (floor p : ℕ) where
+  abbrev pub above : Bool
+  above = leb (fromBy first floor m) (bigEndian 32 (drop p m))
+
+  pub above-first : first ≡ true → above ≡ true
+  above-first e = rw e (le-leb 0 (bigEndian 32 (drop p m)) (omega arith))
+
+  pub above-floor : (r : Bool) → first ≡ false → r ≡ ltb (bigEndian 32 (rest floor m)) (bigEndian 32 (rest p m)) → above ≡ r
+  above-floor r e h = rw (e, h, rest-is floor m, rest-is p m) refl
+
+-- ---- a place joins
+
+module _ (m pos : List ℕ) (n p : ℕ) (long : length pos ≡ 16384) (placed : Placed m pos n) (whole : p + 32 ≤ length m) where
+  module _ (i r : ℕ) (here : i < r) (few : r ≤ 16384) (old : (k : ℕ) → k < r → (k ≡ i → ⊥) → k < n) where
+    -- p is put at place number i, and the first r places then move
+    put-here : getD (set pos i p) i 0 ≡ p
+    put-here = getD-set-same pos i p 0 (omega arith)
+
+    put-points : Pointing m (set pos i p) r
+    put-points k l =
+        byTest (eqb k i)
+        (λ e. rw (eqb-true k i e, put-here) whole)
+        (λ e. rw (getD-set-other pos i k p 0 (eqb-false k i e)) (placed .points k (old k l (eqb-false k i e))))
+
+    module _ (after : List ℕ) (moved : Rearranged (set pos i p) after r) (heap : r ≡ 16384 → Heap m after 0 r) (more : n ≤ r)
+        (gone : i < n → (n ≡ 16384) × (i ≡ 0)) where
+      put-offered : (n < 16384 → r ≡ n + 1) → (n ≡ 16384 → r ≡ 16384) → Offered m pos n p after r
+      put-offered room full = record {
+        placed = record { few = few; points = pointing-kept m (set pos i p) after r moved put-points; heap = heap };
+        room = room;
+        full = full;
+        joined = let j = moved .kept i here in (j .0, j .1, j .2 ∙ put-here);
+        from = λ k l. let j = moved .from k l in byTest (eqb (j .0) i)
+            (λ e. inl (sym (j .2) ∙ rw (eqb-true (j .0) i e) put-here))
+            (λ e. let f = eqb-false (j .0) i e in inr (j .0, old (j .0) (j .1) f, sym (getD-set-other pos i (j .0) p 0 f) ∙ j .2));
+        kept = λ k l. byTest (eqb k i)
+            (λ e. let q = eqb-true k i e in let g = gone (omega arith) in inr (g .0, q ∙ g .1))
+            (λ e. let j = moved .kept k (omega arith) in inl (j .0, j .1, j .2 ∙ getD-set-other pos i k p 0 (eqb-false k i e)));
+      }
+
+  -- in the first place, where there is no more room
+  module _ (full : n ≡ 16384) where
+    pub first-points : Pointing m (set pos 0 p) 16384
+    first-points = put-points 0 16384 (omega arith) (omega arith) (λ k l e. omega arith)
+
+    pub first-heap : Heap m (set pos 0 p) 1 16384
+    first-heap k c low a b l =
+        let j : c ≡ 0 → ⊥ = λ e. omega arith in
+        let i : k ≡ 0 → ⊥ = λ e. omega arith in
+        rw (same-key m (set pos 0 p) pos c c (getD-set-other pos 0 c p 0 j), same-key m (set pos 0 p) pos k k (getD-set-other pos 0 k p 0 i))
+        (placed .heap full k c (omega arith) a b (omega arith))
+
+    pub first-offered : (after : List ℕ) → Rearranged (set pos 0 p) after 16384 → Heap m after 0 16384 → Offered m pos n p after n
+    first-offered after r h =
+        subst (λ (k : ℕ). Offered m pos n p after k) (sym full)
+        (put-offered 0 16384 (omega arith) (omega arith) (λ k l e. omega arith) after r (λ e. h) (omega arith) (λ l. (full, refl)) (λ l. omega arith) (λ e. refl))
+
+  -- behind the others
+  module _ (room : n < 16384) where
+    pub last-points : Pointing m (set pos n p) (n + 1)
+    last-points = put-points n (n + 1) (omega arith) (omega arith) (λ k l e. omega (arith, e))
+
+    pub last-offered : (after : List ℕ) → Rearranged (set pos n p) after (n + 1) → (n + 1 ≡ 16384 → Heap m after 0 (n + 1)) → Offered m pos n p after (n + 1)
+    last-offered after r h =
+        put-offered n (n + 1) (omega arith) (omega arith) (λ k l e. omega (arith, e)) after r h (omega arith) (λ l. absurd (omega arith)) (λ l. refl) (λ e. omega arith)
+
+-- ---- an id that comes first of those still to come
+
+module _ (m : List ℕ) (all : List (List ℕ)) (d : List ℕ) (later : List (List ℕ)) (f : ℕ) (pos : List ℕ) (n : ℕ) (g : Gathering m all (d ∷ later) f pos n) where
+  left-behind : (x : ℕ) → has x (numbers later) ≡ true → has x (numbers all) ≡ true
+  left-behind x e = g .left x (has-there x (bigEndian 32 d) (numbers later) e)
+
+  -- it is passed over where it is below f, or where there is no room for it
+  pub passed : (f ≤ bigEndian 32 d → Held m pos n (keyAt m pos 0) (n ≡ 16384) (bigEndian 32 d)) → Gathering m all later f pos n
+  passed h = record {
+    left = left-behind;
+    from = g .from;
+    holds = λ x e l. ⊎-elim
+        (λ k. ⊎-elim (λ (q : x ≡ bigEndian 32 d). inr (rw q (h (omega arith)))) (λ k. inl k) (has-cases x (bigEndian 32 d) (numbers later) k))
+        (λ k. inr k)
+        (g .holds x e l);
+  }
+
+  module _ (p : ℕ) (after : List ℕ) (r : ℕ) (placed : Placed m pos n) (here : bigEndian 32 d ≡ bigEndian 32 (drop p m)) (low : f ≤ bigEndian 32 d)
+      (least : n ≡ 16384 → bigEndian 32 d < keyAt m pos 0) (o : Offered m pos n p after r) where
+    key-here : (k : ℕ) → getD after k 0 ≡ p → keyAt m after k ≡ bigEndian 32 d
+    unfolding keyAt
+    key-here k e = rw e (sym here)
+
+    -- the largest does not rise
+    falls : n ≡ 16384 → keyAt m after 0 ≤ keyAt m pos 0
+    falls e =
+        let size = o .full e in
+        let h = least e in
+        ⊎-elim
+        (λ q. omega (arith, key-here 0 q))
+        (λ q. omega (arith, heap-top m pos n (placed .heap e) (q .0) (q .1), same-key m pos after (q .0) 0 (q .2)))
+        (o .from 0 (omega arith))
+
+    -- what is held stays so: only the largest can have gone
+    held : (x : ℕ) → Held m pos n (keyAt m pos 0) (n ≡ 16384) x → Held m after r (keyAt m after 0) (r ≡ 16384) x
+    held x (among k l e) =
+        ⊎-elim
+        (λ q. among (q .0) (q .1) (same-key m after pos (q .0) k (q .2) ∙ e))
+        (λ q. beyond (o .full (q .0)) (omega (arith, falls (q .0), ap (keyAt m pos) (q .1), e)))
+        (o .kept k l)
+    held x (beyond e l) = beyond (o .full e) (omega (arith, falls e))
+
+    -- it is taken in
+    pub taken : Gathering m all later f after r
+    taken = record {
+      left = left-behind;
+      from = λ k l. ⊎-elim
+          (λ q. rw (key-here k q) (low, g .left (bigEndian 32 d) (has-here (bigEndian 32 d) (numbers later))))
+          (λ q. rw (← same-key m pos after (q .0) k (q .2)) (g .from (q .0) (q .1)))
+          (o .from k l);
+      holds = λ x e l. ⊎-elim
+          (λ k. ⊎-elim
+          (λ (q : x ≡ bigEndian 32 d). let j = o .joined in inr (among (j .0) (j .1) (key-here (j .0) (j .2) ∙ sym q)))
+          (λ k. inl k)
+          (has-cases x (bigEndian 32 d) (numbers later) k))
+          (λ k. inr (held x k))
+          (g .holds x e l);
+    }
+
+-- ---- the ids of one list
+
+-- what the test of an id x tells
+module _ (f x n top : ℕ) where
+  abbrev pub wants : Bool
+  wants = leb f x && (ltb n 16384 || ltb x top)
+
+  wanted-is : true ≡ wants → (f ≤ x) × (n ≡ 16384 → x < top)
+  wanted-is e =
+      byTest (leb f x)
+      (λ a. byTest (ltb n 16384)
+      (λ b. let h = ltb-true n 16384 b in (leb-true f x a, λ q. absurd (omega arith)))
+      (λ b. let h : true ≡ ltb x top = rw (a, b) at e in (leb-true f x a, λ q. ltb-true x top (sym h))))
+      (λ a. let h : true ≡ false = rw a at e in differ (cc))
+
+  unwanted-is : false ≡ wants → n ≤ 16384 → f ≤ x → (n ≡ 16384) × (top ≤ x)
+  unwanted-is e few l =
+      byTest (leb f x)
+      (λ a. byTest (ltb n 16384)
+      (λ b. let h : false ≡ true = rw (a, b) at e in differ (cc))
+      (λ b. let h : false ≡ ltb x top = rw (a, b) at e in let k = ltb-false n 16384 b in (omega arith, ltb-false x top (sym h))))
+      (λ a. let h = leb-false f x a in absurd (omega arith))
+
+module _ (own : List (List ℕ)) (m : List ℕ) (at count : ℕ) where
+  -- the ids from the i-th on that are no own ones
+  abbrev pub othersFrom : ℕ → List (List ℕ)
+  othersFrom i = keep (lacks own) (listFrom m count at i)
+
+  pub list-starts : keep (lacks own) (idsIn count (drop at m)) ≡ othersFrom 0
+  list-starts = ap (keep (lacks own)) (list-whole m count at)
+
+  pub list-ends : (i : ℕ) → count ≤ i → (later : List (List ℕ)) → othersFrom i ++ later ≡ later
+  unfolding keep
+  list-ends i h later = rw (list-none m count at i h) refl
+
+  module _ (i : ℕ) (h : i < count) (all later : List (List ℕ)) (f : ℕ) (pos : List ℕ) (n : ℕ) (placed : Placed m pos n)
+      (g : Gathering m all (othersFrom i ++ later) f pos n) where
+    abbrev p : ℕ
+    p = at + i * 32
+
+    abbrev d : List ℕ
+    d = take 32 (drop p m)
+
+    -- the i-th id is an own one, or is not wanted, or is taken in
+    pub list-own : some (same d) own ≡ true → Gathering m all (othersFrom (i + 1) ++ later) f pos n
+    unfolding keep
+    list-own e = rw (list-next m count at i h, e) at g
+
+    other-left : some (same d) own ≡ false → Gathering m all (d ∷ (othersFrom (i + 1) ++ later)) f pos n
+    unfolding keep
+    other-left e = rw (list-next m count at i h, e) at g
+
+    pub list-unwanted : (b : Bool) → b ≡ wants f (bigEndian 32 (drop p m)) n (keyAt m pos 0) → b ≡ false → Gathering m all (othersFrom (i + 1) ++ later) f pos n
+    list-unwanted b e t =
+        byTest (some (same d) own) list-own
+        (λ o. passed m all d (othersFrom (i + 1) ++ later) f pos n (other-left o)
+        (λ l. let u = unwanted-is f (bigEndian 32 d) n (keyAt m pos 0) (rw (bigEndian-take 32 (drop p m)) (sym t ∙ e)) (placed .few) l in beyond (u .0) (u .1)))
+
+    pub list-taken : (b : Bool) → b ≡ wants f (bigEndian 32 (drop p m)) n (keyAt m pos 0) → b ≡ true → some (same d) own ≡ false
+        → (after : List ℕ) (r : ℕ) → Offered m pos n p after r → Gathering m all (othersFrom (i + 1) ++ later) f after r
+    list-taken b e t o after r k =
+        let here = bigEndian-take 32 (drop p m) in
+        let w = wanted-is f (bigEndian 32 d) n (keyAt m pos 0) (rw here (sym t ∙ e)) in
+        taken m all d (othersFrom (i + 1) ++ later) f pos n (other-left o) p after r placed here (w .0) (w .1) k
+
+-- what a search among the own ids of a table tells
+pub contains-told : (own m : List ℕ) (first owned p : ℕ) (r : Bool)
+    → r ≡ some (same (take 32 (rest p m))) (idsIn owned (rest first own)) → r ≡ some (same (take 32 (drop p m))) (idsIn owned (drop first own))
+contains-told own m first owned p r e = rw (rest-is p m, rest-is first own) at e
+
+-- ---- the ranges of a message
+
+-- the own ids of a span are the bytes of the table there
+unowned-span : (T : Table) (s : Span) → s .hi ≤ length (T .times) → (x : Bound) → within x (upperOf s) (items T) ≡ ownIn T s → (l : List (List ℕ))
+    → unowned (items T) x (upperOf s) (ids l) ≡ others (T .ids) s l
+unowned-span T s h x e l = unowned-is T s x e l ∙ ap (λ (o : List (List ℕ)). keep (lacks o) l) (ids-run T (s .lo) (s .hi) h)
+
+pub none-placed : (m pos : List ℕ) → Placed m pos 0
+none-placed m pos = record { few = omega arith; points = λ k l. absurd (omega arith); heap = λ e. absurd (omega arith) }
+
+pub none-gathered : (m : List ℕ) (all : List (List ℕ)) (f : ℕ) (pos : List ℕ) → Gathering m all all f pos 0
+none-gathered m all f pos = record { left = λ x e. e; from = λ k l. absurd (omega arith); holds = λ x e l. inl e }
+
+module _ (T : Table) (m : List ℕ) (w : Walk) (all : List (List ℕ)) (f : ℕ) (pos : List ℕ) (n : ℕ) (g : Gathering m all (addedFrom T m w) f pos n) where
+  module _ (s : Step) (k : Stepped T m w s) where
+    step-left : (us : List (List ℕ)) → rangeAdds T m w s ≡ us → Gathering m all (us ++ addedFrom T m (s .next)) f pos n
+    step-left us e = rw (added-next T m w s k, e) at g
+
+    pub none-left : rangeAdds T m w s ≡ [] → Gathering m all (addedFrom T m (s .next)) f pos n
+    none-left = step-left []
+
+    pub ids-left : (count at : ℕ) → s .payload ≡ Payload.Ids count at
+        → Gathering m all (others (T .ids) (s .span) (idsIn count (drop at m)) ++ addedFrom T m (s .next)) f pos n
+    ids-left count at e =
+        step-left (others (T .ids) (s .span) (idsIn count (drop at m)))
+        (list-adds (items T) (lowerAt (w .cursor)) (upperOf (s .span)) m (s .payload) count at e
+        ∙ unowned-span T (s .span) (k .span .1) (lowerAt (w .cursor)) (k .own) (idsIn count (drop at m)))
+
+  -- no range is left
+  pub ranges-end : length m ≤ w .cursor .at → Placed m pos n → Gathered m all f pos n
+  unfolding has
+  ranges-end h placed =
+      let r : Gathering m all [] f pos n = rw (added-ends T m w h) at g in
+      record {
+        few = placed .few;
+        points = placed .points;
+        heap = placed .heap;
+        from = g .from;
+        holds = λ x e l. ⊎-elim (λ k. differ (cc)) (λ k. k) (r .holds x e l);
+      }
+
+-- ---- a window
+
+-- the places that were gathered, sorted, one for each id
+module _ (m : List ℕ) (all : List (List ℕ)) (f : ℕ) (pos : List ℕ) (n : ℕ) (g : Gathered m all f pos n) (sorted : List ℕ) (moved : Rearranged pos sorted n)
+    (once : List ℕ) (r : ℕ) (d : Distinct m sorted n once r) where
+  once-from : (k : ℕ) → k < r → (j : ℕ) × (j < n) × (keyAt m pos j ≡ keyAt m once k)
+  once-from k l = let i = d .from k l in let j = keys-from m pos sorted n moved (i .0) (i .1) in (j .0, j .1, j .2 ∙ i .2)
+
+  once-kept : (k : ℕ) → k < n → (j : ℕ) × (j < r) × (keyAt m once j ≡ keyAt m pos k)
+  once-kept k l = let i = keys-kept m pos sorted n moved k l in let j = d .kept (i .0) (i .1) in (j .0, j .1, j .2 ∙ i .2)
+
+  held-once : (x : ℕ) → Held m pos n (keyAt m pos 0) (n ≡ 16384) x → Held m once r (keyAt m once (r - 1)) (eqb n 16384 ≡ true) x
+  held-once x (among k l e) = let j = once-kept k l in among (j .0) (j .1) (j .2 ∙ e)
+  held-once x (beyond e l) =
+      let some = d .some (omega arith) in
+      let j = once-from (r - 1) (omega arith) in
+      beyond (eq-eqb n 16384 e) (omega (arith, heap-top m pos n (g .heap e) (j .0) (j .1), j .2))
+
+  pub window-made : Windowed m all f once (record { count = r; full = eqb n 16384 })
+  window-made = record {
+    few = omega (arith, d .few, g .few);
+    some = λ e. d .some (omega (arith, eqb-true n 16384 e));
+    points = d .points;
+    rises = d .rises;
+    from = λ k l. let j = once-from k l in rw (← j .2) (g .from (j .0) (j .1));
+    holds = λ x e l. held-once x (g .holds x e l);
+  }

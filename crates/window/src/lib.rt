@@ -1,0 +1,45 @@
+// The ids that a reply adds to the needed list, in windows: the smallest of them from some id on, as many as have room, rising and without repeats. Each
+// window is a walk over the whole reply. For our own crates.
+use crate::select::gather;
+use crate::sorting::distinct;
+use crate::sorting::sort;
+ghost use Prim.Native.Nat.{_+_, _≤_};
+ghost use mathlib.Core.Path.{_≡_};
+ghost use mathlib.Core.Bool.{false};
+ghost use lib.ListN.{length};
+ghost use Rattle.table.specs.Code.{lent};
+ghost use Rattle.table.specs.Private.{Passed};
+ghost use Rattle.walk.specs.Walking.{starts, Walking};
+ghost use Rattle.window.specs.Adding.{addedFrom};
+ghost use Rattle.window.specs.Windows.{fromBy, Windowed};
+
+mod select;
+mod sorting;
+
+// How many ids the window has, and whether there may be more behind it.
+pub struct Window {
+    pub count: usize,
+    pub full: bool,
+}
+
+// The next window: the places of its ids, rising, at the front of `pos`. The ids are those that the reply adds, the smallest of them above the id at place
+// `floor`, or the smallest of all if it is the `first` window.
+pub fn next_window(
+    times: &[u64],
+    own: &[u8],
+    m: &[u8],
+    first: bool,
+    floor: usize,
+    pos: &mut [usize],
+) -> Window
+    requires { ⌜ Passed (lent (now times) (now own)) × Walking (lent (now times) (now own)) (now m) starts × (length (now pos) ≡ 16384) × (first ≡ false → floor + 32 ≤ length (now m)) ⌝ }
+    ensures { λ r. ⌜ Windowed (now (m .entry)) (addedFrom (lent (now (times .entry)) (now (own .entry))) (now (m .entry)) starts) (fromBy first floor (now (m .entry))) (now (pos .exit)) r ⌝ }
+{
+    let count = gather(times, own, m, first, floor, pos);
+    sort(m, pos, count);
+    let distinct = distinct(m, pos, count);
+    Window {
+        count: distinct,
+        full: count == 16384,
+    }
+}

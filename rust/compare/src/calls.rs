@@ -1,0 +1,224 @@
+//! The two implementations behind one interface: the library, and the independent reference.
+use crate::raw;
+use recon::{Bound, Cut, Sent, Session, Table};
+
+#[derive(Clone, Copy, Debug, PartialEq, Eq)]
+pub enum Call {
+    Open,
+    Answer,
+    Take,
+}
+
+impl Call {
+    pub const ALL: [Call; 3] = [Call::Open, Call::Answer, Call::Take];
+
+    pub fn name(self) -> &'static str {
+        match self {
+            Call::Open => "open",
+            Call::Answer => "answer",
+            Call::Take => "take",
+        }
+    }
+
+    /// Whether the specification lets the call refuse by this number.
+    pub fn can_refuse_by(self, number: u8) -> bool {
+        match self {
+            Call::Open => matches!(number, 1..=4 | 12),
+            Call::Answer => matches!(number, 1..=3 | 6..=10 | 12),
+            Call::Take => matches!(number, 1..=12),
+        }
+    }
+}
+
+/// All that a call is lent. An opening has no message and no session, and an answer no marks and no needed buffer.
+pub struct Lent<'a> {
+    pub table: Table<'a>,
+    pub cut: Cut,
+    pub message: &'a [u8],
+    pub session: Session,
+    pub marks: &'a mut [u8],
+    pub needed: &'a mut [u8],
+    pub out: &'a mut [u8],
+}
+
+/// A refusal: its number, and the session that is handed back with it.
+#[derive(Clone, Copy, Debug, PartialEq, Eq)]
+pub struct Refused {
+    pub number: u8,
+    pub session: Session,
+}
+
+/// What a call answers. For an answer the session is the one that it was handed.
+pub type Outcome = Result<Sent, Refused>;
+
+/// A bound as it is handed to the fingerprint call; it may be unlawful in every way.
+#[derive(Clone, Copy, Debug)]
+pub struct GivenBound<'a> {
+    pub infinite: bool,
+    pub time: u64,
+    pub prefix: &'a [u8],
+}
+
+impl GivenBound<'_> {
+    /// The bounds of all items: time 0 without prefix, and infinity.
+    pub const WHOLE: [GivenBound<'static>; 2] = [
+        GivenBound {
+            infinite: false,
+            time: 0,
+            prefix: &[],
+        },
+        GivenBound {
+            infinite: true,
+            time: 0,
+            prefix: &[],
+        },
+    ];
+}
+
+pub trait Calls {
+    fn name(&self) -> &'static str;
+    fn run(&self, call: Call, lent: &mut Lent<'_>) -> Outcome;
+    fn fingerprint(&self, table: Table<'_>, lower: GivenBound<'_>, upper: GivenBound<'_>) -> Result<[u8; 16], u8>;
+    fn sha256(&self, message: &[u8]) -> [u8; 32];
+}
+
+/// The session that a refused opening hands back.
+const NO_SESSION: Session = Session {
+    marked: 0,
+    needed: 0,
+    done: true,
+};
+
+/// The proved library, called by the safe crate.
+pub struct Library;
+
+impl Calls for Library {
+    fn name(&self) -> &'static str {
+        "library"
+    }
+
+    fn run(&self, call: Call, lent: &mut Lent<'_>) -> Outcome {
+        let Lent {
+            table,
+            cut,
+            message,
+            session,
+            ..
+        } = *lent;
+        let result = match call {
+            Call::Open => recon::open_session(table, cut, lent.marks, lent.needed, lent.out),
+            Call::Answer => recon::answer_query(table, cut, message, lent.out).map(|length| Sent { length, session }),
+            Call::Take => recon::take_reply(table, cut, message, session, lent.marks, lent.needed, lent.out),
+        };
+        result.map_err(|refusal| {
+            // The safe crate gives the number alone. A refused call changed nothing, so the C call must refuse again.
+            let again = raw::run(call, lent);
+            assert_eq!(
+                again.refusal,
+                u64::from(refusal.number()),
+                "the C call refuses as the safe call does"
+            );
+            Refused {
+                number: refusal.number(),
+                session: again.session,
+            }
+        })
+    }
+
+    fn fingerprint(&self, table: Table<'_>, lower: GivenBound<'_>, upper: GivenBound<'_>) -> Result<[u8; 16], u8> {
+        const BEFORE: [u8; 16] = *b"bytes that stay.";
+        let mut out = BEFORE;
+        let number = raw::fingerprint(table, lower, upper, &mut out);
+        let result = if number == 0 { Ok(out) } else { Err(number as u8) };
+        assert!(
+            number == 0 || out == BEFORE,
+            "a refused fingerprint call leaves its out bytes"
+        );
+        // A prefix at infinity cannot be said in the safe crate.
+        if let (Some(lower), Some(upper)) = (safe_bound(lower), safe_bound(upper)) {
+            let safe = recon::fingerprint(table, lower, upper).map_err(|refusal| refusal.number());
+            assert_eq!(safe, result, "the safe call answers as the C call does");
+        }
+        result
+    }
+
+    fn sha256(&self, message: &[u8]) -> [u8; 32] {
+        recon::sha256(message)
+    }
+}
+
+fn safe_bound(bound: GivenBound<'_>) -> Option<Bound<'_>> {
+    match (bound.infinite, bound.prefix) {
+        (true, []) => Some(Bound::Infinity),
+        (true, _) => None,
+        (false, prefix) => Some(Bound::At {
+            time: bound.time,
+            prefix,
+        }),
+    }
+}
+
+/// The independent implementation.
+pub struct Reference;
+
+impl Calls for Reference {
+    fn name(&self) -> &'static str {
+        "reference"
+    }
+
+    fn run(&self, call: Call, lent: &mut Lent<'_>) -> Outcome {
+        let Lent {
+            table: Table { times, ids },
+            cut: Cut { parts: b, limit: t },
+            message,
+            session,
+            ..
+        } = *lent;
+        let given = reference::Session {
+            marked: session.marked,
+            needed: session.needed,
+            done: session.done,
+        };
+        let result = match call {
+            Call::Open => reference::open(times, ids, b, t, lent.marks, lent.needed, lent.out),
+            Call::Answer => reference::answer(times, ids, b, t, message, lent.out)
+                .map(|length| reference::Sent { length, session: given }),
+            Call::Take => reference::take(times, ids, b, t, message, given, lent.marks, lent.needed, lent.out),
+        };
+        let kept = if call == Call::Open { NO_SESSION } else { session };
+        result.map(sent).map_err(|number| Refused { number, session: kept })
+    }
+
+    fn fingerprint(&self, table: Table<'_>, lower: GivenBound<'_>, upper: GivenBound<'_>) -> Result<[u8; 16], u8> {
+        reference::fingerprint(table.times, table.ids, &reference_bound(lower), &reference_bound(upper))
+    }
+
+    fn sha256(&self, message: &[u8]) -> [u8; 32] {
+        reference::sha256(message)
+    }
+}
+
+fn sent(sent: reference::Sent) -> Sent {
+    let reference::Session { marked, needed, done } = sent.session;
+    Sent {
+        length: sent.length,
+        session: Session { marked, needed, done },
+    }
+}
+
+fn reference_bound(bound: GivenBound<'_>) -> reference::GivenBound {
+    let GivenBound {
+        infinite,
+        time,
+        prefix: given,
+    } = bound;
+    let mut prefix = [0; 32];
+    let kept = given.len().min(32);
+    prefix[..kept].copy_from_slice(&given[..kept]);
+    reference::GivenBound {
+        infinite,
+        time,
+        length: given.len(),
+        prefix,
+    }
+}

@@ -1,0 +1,218 @@
+//! Compares one call of two implementations: the answers, and every byte of all that was lent.
+use crate::calls::{Call, Calls, GivenBound, Reference, Refused};
+use crate::guard::Side;
+use crate::input::{After, Input, Regions};
+use crate::show;
+use recon::{Sent, Table};
+
+/// A check: what it gives, or what differs.
+pub type Check<T = ()> = Result<T, String>;
+
+/// What was compared.
+#[derive(Clone, Default)]
+pub struct Counts {
+    pub cases: u64,
+    /// Calls compared, those of fingerprints and digests included.
+    pub calls: u64,
+    /// Those of them with every slice beside an inaccessible page.
+    pub guarded: u64,
+    /// How often each call gave each number, 0 for no refusal.
+    pub numbers: [[u64; 13]; 3],
+    /// Sessions that came to their end.
+    pub sessions: u64,
+    /// Takes of them that were not refused.
+    pub takes: u64,
+    /// Those of them that were not handed the answer to the query last sent.
+    pub late: u64,
+    /// Sessions that ended with the last reply that the bound allows.
+    pub full_rows: u64,
+    /// Differences that stayed unreported, each inside a compared range with equal fingerprints.
+    pub excused: u64,
+}
+
+impl Counts {
+    pub fn add(&mut self, other: &Counts) {
+        self.cases += other.cases;
+        self.calls += other.calls;
+        self.guarded += other.guarded;
+        self.sessions += other.sessions;
+        self.takes += other.takes;
+        self.late += other.late;
+        self.full_rows += other.full_rows;
+        self.excused += other.excused;
+        let sums = self.numbers.iter_mut().flatten();
+        sums.zip(other.numbers.iter().flatten())
+            .for_each(|(sum, count)| *sum += count);
+    }
+}
+
+/// The two implementations, and memory for the slices that are lent to the first.
+pub struct Comparer<'a> {
+    first: &'a dyn Calls,
+    second: &'a dyn Calls,
+    regions: Regions,
+    turn: u64,
+    /// Prints each input before the call.
+    pub show: bool,
+    pub counts: Counts,
+}
+
+impl<'a> Comparer<'a> {
+    pub fn new(first: &'a dyn Calls, second: &'a dyn Calls) -> Comparer<'a> {
+        Comparer {
+            first,
+            second,
+            regions: Regions::new(),
+            turn: 0,
+            show: false,
+            counts: Counts::default(),
+        }
+    }
+
+    /// Starts a case: what follows no longer depends on the cases before it.
+    pub fn start_case(&mut self, index: u64) {
+        self.turn = index;
+        self.counts.cases += 1;
+    }
+
+    /// Counts a call. Slices touch the two ends of their regions by turns.
+    fn next_side(&mut self) -> Side {
+        self.turn += 1;
+        self.counts.calls += 1;
+        if self.turn % 2 == 0 {
+            Side::Start
+        } else {
+            Side::End
+        }
+    }
+
+    /// Makes a call with both implementations; what both answer.
+    pub fn call(&mut self, input: &Input<'_>) -> Check<After> {
+        if self.show {
+            print!("{}", show::input(input));
+        }
+        let side = self.next_side();
+        let guarded = self.regions.run(self.first, input, side);
+        self.counts.guarded += u64::from(guarded.is_some());
+        let (first, unchanged) = guarded.unwrap_or_else(|| (input.run(self.first), true));
+        let second = input.run(self.second);
+        if self.show {
+            println!("  {}: {:?}", self.first.name(), first.outcome);
+            println!("  {}: {:?}", self.second.name(), second.outcome);
+        }
+        let names = format!("{} and {}", self.first.name(), self.second.name());
+        compare_after(&first, &second, &names)
+            .and_then(|()| check_lent(input, &first, unchanged))
+            .map_err(|text| format!("{}: {}", input.call.name(), text))?;
+        self.counts.numbers[input.call as usize][usize::from(first.number())] += 1;
+        Ok(first)
+    }
+
+    /// What a call needs when there is room for all: out bytes, and ids of the needed buffer. Asked of the reference
+    /// alone; none if it refuses.
+    pub fn room(&self, input: &Input<'_>) -> Option<(usize, usize)> {
+        // A message of m bytes has at most m / 3 ranges, each of them at most 48 bytes and its payload; the parts and
+        // lists of all ranges together are at most as many as the items, each at most 60 bytes.
+        let out = vec![0; 1 + 60 * input.table.times.len() + 48 * (input.message.len() / 3 + 1)];
+        let mut needed = input.needed.to_vec();
+        needed.resize(needed.len() + input.message.len() / 32 * 32, 0);
+        let sent = input.with_needed(&needed).with_out(&out).run(&Reference).outcome.ok()?;
+        Some((sent.length, sent.session.needed))
+    }
+
+    /// The fingerprint call with both implementations.
+    pub fn fingerprint(&mut self, table: Table<'_>, bounds: [GivenBound<'_>; 2]) -> Check<Result<[u8; 16], u8>> {
+        let [lower, upper] = bounds;
+        if self.show {
+            print!("{}", show::fingerprint(table, lower, upper));
+        }
+        let side = self.next_side();
+        let guarded = self.regions.fingerprint(self.first, table, bounds, side);
+        self.counts.guarded += u64::from(guarded.is_some());
+        let first = guarded.unwrap_or_else(|| self.first.fingerprint(table, lower, upper));
+        let second = self.second.fingerprint(table, lower, upper);
+        if first != second {
+            let names = (self.first.name(), self.second.name());
+            return Err(format!("fingerprint: {:?} tell {:?} and {:?}", names, first, second));
+        }
+        Ok(first)
+    }
+
+    /// SHA-256 with both implementations.
+    pub fn sha256(&mut self, message: &[u8]) -> Check<[u8; 32]> {
+        if self.show {
+            println!("sha256 of {} bytes {}", message.len(), show::hex(message));
+        }
+        let side = self.next_side();
+        let guarded = self.regions.sha256(self.first, message, side);
+        self.counts.guarded += u64::from(guarded.is_some());
+        let first = guarded.unwrap_or_else(|| self.first.sha256(message));
+        let second = self.second.sha256(message);
+        same_bytes(&first, &second, || format!("digests of {} bytes", message.len()))?;
+        Ok(first)
+    }
+}
+
+fn compare_after(first: &After, second: &After, names: &str) -> Check {
+    if first.outcome != second.outcome {
+        let outcomes = (first.outcome, second.outcome);
+        return Err(format!("{} answer {:?} and {:?}", names, outcomes.0, outcomes.1));
+    }
+    same_bytes(&first.marks, &second.marks, || format!("{}: marks", names))?;
+    same_bytes(&first.needed, &second.needed, || format!("{}: needed bytes", names))?;
+    same_bytes(&first.out, &second.out, || format!("{}: out bytes", names))
+}
+
+/// What holds of the lent bytes after every call, whichever implementation made it.
+fn check_lent(input: &Input<'_>, after: &After, unchanged: bool) -> Check {
+    if !unchanged {
+        return Err("a slice lent for reading has changed".to_string());
+    }
+    match after.outcome {
+        Ok(sent) => check_sent(input, after, sent),
+        Err(refused) => check_refused(input, after, refused),
+    }
+}
+
+/// A refused call leaves all as it was.
+fn check_refused(input: &Input<'_>, after: &After, refused: Refused) -> Check {
+    let what = |buffer| move || format!("refused by {}: {} before and afterwards", refused.number, buffer);
+    same_bytes(input.marks, &after.marks, what("marks"))?;
+    same_bytes(input.needed, &after.needed, what("needed bytes"))?;
+    same_bytes(input.out, &after.out, what("out bytes"))
+}
+
+/// Bytes behind the message and the list stay, and the session counts the marks.
+fn check_sent(input: &Input<'_>, after: &After, sent: Sent) -> Check {
+    let listed = if input.call == Call::Take {
+        32 * sent.session.needed
+    } else {
+        0
+    };
+    if sent.length > input.out.len() || listed > input.needed.len() {
+        return Err(format!("{:?} is more than the buffers hold", sent));
+    }
+    let what = |buffer| move || format!("{} behind what was written", buffer);
+    same_bytes(&input.out[sent.length..], &after.out[sent.length..], what("out bytes"))?;
+    same_bytes(&input.needed[listed..], &after.needed[listed..], what("needed bytes"))?;
+    let ones = after.marks.iter().filter(|&&mark| mark == 1).count();
+    if input.call != Call::Answer && sent.session.marked != ones {
+        let marked = sent.session.marked;
+        return Err(format!("{} marks are 1, and the session says {}", ones, marked));
+    }
+    Ok(())
+}
+
+/// Whether two byte strings are the same; if not, the first byte that differs.
+pub fn same_bytes(first: &[u8], second: &[u8], what: impl FnOnce() -> String) -> Check {
+    if first == second {
+        return Ok(());
+    }
+    match first.iter().zip(second).position(|(a, b)| a != b) {
+        None => Err(format!("{} have {} and {} bytes", what(), first.len(), second.len())),
+        Some(at) => {
+            let (a, b) = (first[at], second[at]);
+            Err(format!("{} differ at {}: {:02x} and {:02x}", what(), at, a, b))
+        }
+    }
+}

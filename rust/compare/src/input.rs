@@ -1,0 +1,196 @@
+//! What a call is handed and what it leaves, and the making of a call on copies of it.
+use crate::calls::{Call, Calls, GivenBound, Lent, Outcome};
+use crate::guard::{Region, Side, ROOM};
+use recon::{Cut, Session, Table};
+
+/// The session that an opening leaves.
+pub const NEW_SESSION: Session = Session {
+    marked: 0,
+    needed: 0,
+    done: false,
+};
+
+/// What a call is handed.
+#[derive(Clone, Copy)]
+pub struct Input<'a> {
+    pub call: Call,
+    pub table: Table<'a>,
+    pub cut: Cut,
+    pub message: &'a [u8],
+    pub session: Session,
+    pub marks: &'a [u8],
+    pub needed: &'a [u8],
+    pub out: &'a [u8],
+}
+
+/// What a call answers, and the lent buffers afterwards.
+pub struct After {
+    pub outcome: Outcome,
+    pub marks: Vec<u8>,
+    pub needed: Vec<u8>,
+    pub out: Vec<u8>,
+}
+
+impl After {
+    /// The number of the refusal, 0 for none.
+    pub fn number(&self) -> u8 {
+        self.outcome.map_or_else(|refused| refused.number, |_| 0)
+    }
+
+    /// The message that was written.
+    pub fn message(&self) -> &[u8] {
+        self.outcome.map_or(&[], |sent| &self.out[..sent.length])
+    }
+}
+
+impl<'a> Input<'a> {
+    /// A call about a table with a new session, without message and buffers.
+    pub fn new(call: Call, table: Table<'a>, cut: Cut) -> Input<'a> {
+        Input {
+            call,
+            table,
+            cut,
+            message: &[],
+            session: NEW_SESSION,
+            marks: &[],
+            needed: &[],
+            out: &[],
+        }
+    }
+
+    pub fn with_message(self, message: &'a [u8]) -> Input<'a> {
+        Input { message, ..self }
+    }
+
+    pub fn with_state(self, session: Session, marks: &'a [u8], needed: &'a [u8]) -> Input<'a> {
+        Input {
+            session,
+            marks,
+            needed,
+            ..self
+        }
+    }
+
+    pub fn with_needed(self, needed: &'a [u8]) -> Input<'a> {
+        Input { needed, ..self }
+    }
+
+    pub fn with_out(self, out: &'a [u8]) -> Input<'a> {
+        Input { out, ..self }
+    }
+
+    fn lent(&self, marks: &'a mut [u8], needed: &'a mut [u8], out: &'a mut [u8]) -> Lent<'a> {
+        Lent {
+            table: self.table,
+            cut: self.cut,
+            message: self.message,
+            session: self.session,
+            marks,
+            needed,
+            out,
+        }
+    }
+
+    /// Makes the call on copies of the written buffers.
+    pub fn run(&self, calls: &dyn Calls) -> After {
+        let (mut marks, mut needed, mut out) = (self.marks.to_vec(), self.needed.to_vec(), self.out.to_vec());
+        let outcome = calls.run(self.call, &mut self.lent(&mut marks, &mut needed, &mut out));
+        After {
+            outcome,
+            marks,
+            needed,
+            out,
+        }
+    }
+}
+
+/// Memory for all that a call is lent.
+pub struct Regions {
+    times: Region,
+    ids: Region,
+    message: Region,
+    marks: Region,
+    needed: Region,
+    out: Region,
+}
+
+fn place_table<'a>(times: &'a mut Region, ids: &'a mut Region, table: Table<'_>, side: Side) -> Table<'a> {
+    Table {
+        times: times.place_times(table.times, side),
+        ids: ids.place(table.ids, side),
+    }
+}
+
+fn table_fits(table: Table<'_>) -> bool {
+    8 * table.times.len() <= ROOM && table.ids.len() <= ROOM
+}
+
+impl Regions {
+    pub fn new() -> Regions {
+        Regions {
+            times: Region::new(),
+            ids: Region::new(),
+            message: Region::new(),
+            marks: Region::new(),
+            needed: Region::new(),
+            out: Region::new(),
+        }
+    }
+
+    /// Makes the call with every slice at one end of its region; none if one does not fit. The flag says whether the
+    /// slices that were lent for reading are as before.
+    pub fn run(&mut self, calls: &dyn Calls, input: &Input<'_>, side: Side) -> Option<(After, bool)> {
+        let buffers = [input.message, input.marks, input.needed, input.out];
+        if !table_fits(input.table) || buffers.iter().any(|buffer| buffer.len() > ROOM) {
+            return None;
+        }
+        let placed = Input {
+            table: place_table(&mut self.times, &mut self.ids, input.table, side),
+            message: self.message.place(input.message, side),
+            ..*input
+        };
+        let marks = self.marks.place(input.marks, side);
+        let needed = self.needed.place(input.needed, side);
+        let out = self.out.place(input.out, side);
+        let outcome = calls.run(input.call, &mut placed.lent(marks, needed, out));
+        let same_table = placed.table.times == input.table.times && placed.table.ids == input.table.ids;
+        let after = After {
+            outcome,
+            marks: marks.to_vec(),
+            needed: needed.to_vec(),
+            out: out.to_vec(),
+        };
+        Some((after, same_table && placed.message == input.message))
+    }
+
+    /// The fingerprint call in the same way.
+    pub fn fingerprint(
+        &mut self,
+        calls: &dyn Calls,
+        table: Table<'_>,
+        [lower, upper]: [GivenBound<'_>; 2],
+        side: Side,
+    ) -> Option<Result<[u8; 16], u8>> {
+        if !table_fits(table) {
+            return None;
+        }
+        let table = place_table(&mut self.times, &mut self.ids, table, side);
+        let lower = GivenBound {
+            prefix: self.message.place(lower.prefix, side),
+            ..lower
+        };
+        let upper = GivenBound {
+            prefix: self.needed.place(upper.prefix, side),
+            ..upper
+        };
+        Some(calls.fingerprint(table, lower, upper))
+    }
+
+    /// The digest in the same way.
+    pub fn sha256(&mut self, calls: &dyn Calls, message: &[u8], side: Side) -> Option<[u8; 32]> {
+        if message.len() > ROOM {
+            return None;
+        }
+        Some(calls.sha256(self.message.place(message, side)))
+    }
+}

@@ -1,0 +1,314 @@
+//! The worked examples of the specification by number, and others that show how it is read.
+use super::Case;
+use crate::calls::{Call, GivenBound};
+use crate::compare::{same_bytes, Check};
+use crate::exchange::{End, Ends, Exchange};
+use crate::generate::{from_text, id_from, Item, OwnedTable};
+use crate::input::{After, NEW_SESSION};
+use recon::{Cut, Session};
+
+type Example = fn(&mut Case<'_, '_>) -> Check;
+
+const EXAMPLES: [(&str, Example); 11] = [
+    ("E1, varints", varints),
+    ("E3, the empty table", empty_table),
+    ("E4, different times", |case| opening(case, [5, 5, 7], "08 00")),
+    ("E5, equal times", |case| opening(case, [5, 5, 5], "06 01 03")),
+    ("E6, seven items in three parts", seven_in_three),
+    ("E10, fingerprints", fingerprints),
+    ("E11, an item that they lack", one_item),
+    ("an own id under another range", other_range),
+    ("an id under two times", two_times),
+    ("skips in answers", skips),
+    ("replies that say little", short_replies),
+];
+
+/// Messages and the number that reading them gives, 0 for none: examples of the specification, or what they are about.
+const MESSAGES: [(&str, &str, u8); 79] = [
+    ("E2", "61 80", 8),
+    ("E2", "61 82 80*8 00", 8),
+    ("E3", "61 00 00 02 00", 0),
+    ("E7", "61 06 00 00 01 00 00", 9),
+    ("E8", "61 00 01 07 00", 9),
+    ("E8", "61 00 00 03", 10),
+    ("E9", "61 00 00 01 07*15", 7),
+    ("E9", "61 00 00 01 07*16", 0),
+    ("missing bytes are 00", "61 06 00 00 01 01 00", 9),
+    ("missing bytes are 00", "61 06 02 05 00 00 01 01 05", 9),
+    ("missing bytes are 00", "61 01 01 00", 9),
+    ("missing bytes are 00", "61 01 02 00 01 00", 0),
+    ("varints", "61 81", 7),
+    ("varints", "61 82 80*8", 7),
+    ("varints", "61 82 80*8 80", 8),
+    ("varints", "61 81 80*8 80", 7),
+    ("varints", "61 81 80*9 00", 8),
+    ("varints", "61 FF*9", 7),
+    ("varints", "61 FF*10", 8),
+    ("varints", "61 81 FF*8 FF", 7),
+    ("varints", "61 81 FF*8 FF 00", 8),
+    ("varints", "61 81 80 00 00 00", 0),
+    ("time codes", "61 06 00 00 81 FF*8 7F", 9),
+    ("time codes", "61 06 00 00 81 FF*8 7A 00 00", 0),
+    ("time codes", "61 06 00 00 81 FF*8 7B", 9),
+    ("time codes", "61 81 FF*8 7F 00 00", 0),
+    ("time codes", "61 81 FF*8 7F 00 00 02", 9),
+    ("time codes", "61 81 FF*8 7F 00 00 01 20 FF*32 00", 0),
+    ("after infinity", "61 00 00 00", 0),
+    ("after infinity", "61 00 00 00 01", 9),
+    ("after infinity", "61 00 00 00 81", 7),
+    ("after infinity", "61 00 00 00 80", 8),
+    ("after infinity", "61 00 00 00 00", 7),
+    ("after infinity", "61 00 00 00 00 00", 9),
+    ("after infinity", "61 00 00 00 00 01", 9),
+    ("after infinity", "61 00 00 00 00 80", 8),
+    ("after infinity", "61 00 00 00 00 81", 7),
+    ("prefix at infinity", "61 00 01", 9),
+    ("prefix lengths", "61 06 21", 9),
+    ("prefix lengths", "61 06 20", 7),
+    ("prefix lengths", "61 06 20 00*32 00", 0),
+    ("prefix lengths", "61 06 A1", 7),
+    ("prefix lengths", "61 06 A1 00", 9),
+    ("bound before mode", "61 06 00 00 01", 7),
+    ("bound before mode", "61 06 00 00 01 00", 9),
+    ("bound before mode", "61 06 00 00 01 01", 7),
+    ("bound before mode", "61 06 00 00 01 01 01 00", 0),
+    ("bound before mode", "61 01 00 80", 9),
+    ("bound before mode", "61 01 00 03", 9),
+    ("first lower bound", "61 01 00", 9),
+    ("first lower bound", "61 01 01 01 00", 0),
+    ("first lower bound", "61 02 00 00", 0),
+    ("modes", "61 00 00 81", 7),
+    ("modes", "61 00 00 81 00", 10),
+    ("modes", "61 00 00 80", 8),
+    ("modes", "61 00 00 FF*10", 8),
+    ("modes", "61 00 00 FF*9", 7),
+    ("modes", "61 00 00 FF*8 7F", 10),
+    ("counts", "61 00 00 02 81 FF*8 7F", 7),
+    ("counts", "61 00 00 02 88 80*7 00", 7),
+    ("counts", "61 00 00 02 88 80*8 00", 8),
+    ("counts", "61 00 00 02 01 07*31", 7),
+    ("counts", "61 00 00 02 01 07*32", 0),
+    ("counts", "61 00 00 02", 7),
+    ("forms never written", "61", 0),
+    ("forms never written", "61 06 00 00 02 00 00 02 00 00", 0),
+    ("forms never written", "61 06 03 01 00 00 00", 0),
+    ("forms never written", "61 00 00 02 03 09*32 07*32 09*32", 0),
+    ("version", "", 6),
+    ("version", "60", 6),
+    ("version", "62", 6),
+    ("version", "62 80", 6),
+    ("version", "00 61", 6),
+    ("bytes behind a fault", "61 06 00 02 00 80", 8),
+    ("bytes behind a fault", "61 06 00 02 00 80 61 00", 8),
+    ("neighbouring skips", "61 06 00 00 03 00 00 03 00 02 00", 0),
+    ("final skips", "61 0A 00 02 00 02 00 00 02 00 00", 0),
+    ("id of another range", "61 07 00 02 00 00 00 02 01 01 00*31", 0),
+    ("showmsg", "61 08 01 03 00 00 00 02 00", 0),
+];
+
+pub fn cases(_long: bool) -> u64 {
+    (EXAMPLES.len() + MESSAGES.len()) as u64
+}
+
+pub fn run(case: &mut Case<'_, '_>) -> Check {
+    let index = case.index as usize;
+    if let Some((name, example)) = EXAMPLES.get(index) {
+        return example(case).map_err(|text| format!("{}: {}", name, text));
+    }
+    let (name, text, number) = MESSAGES[index - EXAMPLES.len()];
+    message(case, &from_text(text), number).map_err(|what| format!("{}, {}: {}", name, text, what))
+}
+
+/// A message as a query and as a reply, for several tables; a fault other than 7 stays whatever follows it.
+fn message(case: &mut Case<'_, '_>, bytes: &[u8], number: u8) -> Check {
+    let three = table(&[(5, &[1]), (5, &[2]), (7, &[3])]);
+    for table in [OwnedTable::default(), table(&[(5, &[1])]), three] {
+        both_ways(case, &table, bytes, number)?;
+        if matches!(number, 6 | 8..=10) && !bytes.is_empty() {
+            let longer = [bytes, &case.rng.bytes(40)].concat();
+            both_ways(case, &table, &longer, number)?;
+        }
+    }
+    Ok(())
+}
+
+fn both_ways(case: &mut Case<'_, '_>, table: &OwnedTable, bytes: &[u8], number: u8) -> Check {
+    let (marks, needed, out) = (vec![0; table.count()], case.rng.bytes(128), case.rng.bytes(400));
+    for call in [Call::Answer, Call::Take] {
+        let input = end(table, 2, 2).input(call).with_message(bytes).with_out(&out);
+        case.expect(&input.with_state(NEW_SESSION, &marks, &needed), number)?;
+    }
+    Ok(())
+}
+
+/// The table of times and the first bytes of ids, the other bytes 00.
+fn table(items: &[(u64, &[u8])]) -> OwnedTable {
+    let items: Vec<Item> = items.iter().map(|(time, start)| (*time, id_from(start))).collect();
+    OwnedTable::of(&items)
+}
+
+fn end(table: &OwnedTable, parts: usize, limit: usize) -> End<'_> {
+    let cut = Cut { parts, limit };
+    End { table, cut }
+}
+
+fn opened(case: &mut Case<'_, '_>, opener: End<'_>) -> Check<After> {
+    let marks = case.rng.bytes(opener.table.count());
+    let out = case.rng.bytes(20_000);
+    let input = opener.input(Call::Open).with_out(&out);
+    case.expect(&input.with_state(NEW_SESSION, &marks, &[]), 0)
+}
+
+/// A take after the opening, with parts and limit 2 and room for four needed ids.
+fn taken(case: &mut Case<'_, '_>, table: &OwnedTable, reply: &str) -> Check<After> {
+    let reply = from_text(reply);
+    let (marks, needed, out) = (vec![0; table.count()], case.rng.bytes(128), case.rng.bytes(400));
+    let input = end(table, 2, 2).input(Call::Take).with_message(&reply).with_out(&out);
+    case.expect(&input.with_state(NEW_SESSION, &marks, &needed), 0)
+}
+
+fn same(first: &[u8], second: &[u8], what: &str) -> Check {
+    same_bytes(first, second, || what.to_string())
+}
+
+fn written(after: &After, text: &str) -> Check {
+    same(after.message(), &from_text(text), "the message and the expected one")
+}
+
+fn session(after: &After, marked: usize, needed: usize, done: bool) -> Check {
+    let expected = Session { marked, needed, done };
+    match after.outcome {
+        Ok(sent) if sent.session == expected => Ok(()),
+        outcome => Err(format!("{:?} expected, both say {:?}", expected, outcome)),
+    }
+}
+
+/// Values as the time code of a bound and as the count of a list.
+fn varints(case: &mut Case<'_, '_>) -> Check {
+    for (value, bytes) in [(127, "7F"), (128, "81 00"), (300, "82 2C"), (u64::MAX, "81 FF*8 7F")] {
+        let three = table(&[(0, &[1]), (1, &[2]), (value - 1, &[3])]);
+        let opened = opened(case, end(&three, 2, 2))?;
+        let start = from_text(&format!("61 {} 00 01", bytes));
+        same(&opened.message()[..start.len()], &start, "messages with a time code")?;
+    }
+    for (count, bytes) in [(0, "00"), (127, "7F"), (128, "81 00"), (300, "82 2C")] {
+        let items: Vec<Item> = (0..count).map(|i| (9, id_from(&[(i >> 8) as u8, i as u8]))).collect();
+        let list = OwnedTable::of(&items);
+        let opened = opened(case, end(&list, 2, 300))?;
+        let expected = [from_text(&format!("61 00 00 02 {}", bytes)), list.ids.clone()].concat();
+        same(opened.message(), &expected, "messages with a list")?;
+    }
+    Ok(())
+}
+
+fn empty_table(case: &mut Case<'_, '_>) -> Check {
+    let none = OwnedTable::default();
+    let bytes = "61 00 00 02 00";
+    written(&opened(case, end(&none, 2, 2))?, bytes)?;
+    answered(case, bytes, bytes)?;
+    let taken = taken(case, &none, bytes)?;
+    written(&taken, "")?;
+    session(&taken, 0, 0, true)
+}
+
+/// An answer of an empty responder, with exact room and one byte less.
+fn answered(case: &mut Case<'_, '_>, query: &str, expected: &str) -> Check {
+    let none = OwnedTable::default();
+    let query = from_text(query);
+    let out = case.rng.bytes(from_text(expected).len());
+    let input = end(&none, 2, 2).input(Call::Answer).with_message(&query);
+    written(&case.expect(&input.with_out(&out), 0)?, expected)?;
+    case.expect(&input.with_out(&out[1..]), 12)?;
+    Ok(())
+}
+
+/// Ids 01, 02 and 03 under these times: two parts, with this bound between them.
+fn opening(case: &mut Case<'_, '_>, times: [u64; 3], bound: &str) -> Check {
+    let three = table(&[(times[0], &[1]), (times[1], &[2]), (times[2], &[3])]);
+    let (first, second) = ("055ec405febfad804c1c5638d7369361", "7e839d7aa6d079f68e2589f6c668a00f");
+    let message = format!("61 {} 01 {} 00 00 01 {}", bound, first, second);
+    written(&opened(case, end(&three, 2, 2))?, &message)
+}
+
+/// The parts are told by their bounds.
+fn seven_in_three(case: &mut Case<'_, '_>) -> Check {
+    let items: Vec<Item> = (0..7).map(|i| (i + 1, id_from(&[9 - i as u8]))).collect();
+    let opened = opened(case, end(&OwnedTable::of(&items), 3, 3))?;
+    let message = opened.message();
+    if message.len() != 1 + 3 * 19 {
+        return Err(format!("{} bytes", message.len()));
+    }
+    // The second part begins with the fourth item and the third one with the sixth: times 4 and 6.
+    let starts = [&message[1..4], &message[20..23], &message[39..42]].concat();
+    same(&starts, &from_text("05 00 01 03 00 01 00 00 01"), "bounds of the parts")
+}
+
+/// No item; and the ids FF (32 times) and 01 then zeros, whose sum is 0.
+fn fingerprints(case: &mut Case<'_, '_>) -> Check {
+    let two = OwnedTable::of(&[(3, id_from(&[1])), (4, [0xff; 32])]);
+    let expected = [
+        (OwnedTable::default(), "7f9c9e31ac8256ca2f258583df262dbc"),
+        (two, "58cc2f44d3a27866874701fbad573da9"),
+    ];
+    for (table, text) in expected {
+        let told = case.comparer.fingerprint(table.lent(), GivenBound::WHOLE)?;
+        let told = told.map_err(|number| format!("refused by {}", number))?;
+        same(&told, &from_text(text), "fingerprints")?;
+    }
+    Ok(())
+}
+
+fn one_item(case: &mut Case<'_, '_>) -> Check {
+    let taken = taken(case, &table(&[(5, &[1])]), "61 00 00 02 00")?;
+    same(&taken.marks, &[1], "marks")?;
+    session(&taken, 1, 0, true)
+}
+
+/// The item is marked, as its range does not list its id, and the id is needed, as its range has no such item.
+fn other_range(case: &mut Case<'_, '_>) -> Check {
+    let reply = "61 07 00 02 00 00 00 02 01 01 00*31";
+    let taken = taken(case, &table(&[(5, &[1])]), reply)?;
+    same(&taken.needed[..32], &id_from(&[1]), "the needed id and 01")?;
+    session(&taken, 1, 1, true)
+}
+
+/// The id AA is reported both ways, as its items differ.
+fn two_times(case: &mut Case<'_, '_>) -> Check {
+    let ours = table(&[(5, &[0xaa]), (6, &[1]), (8, &[2])]);
+    let theirs = table(&[(6, &[1]), (8, &[2]), (9, &[0xaa])]);
+    let cut = Cut { parts: 2, limit: 2 };
+    let ends = Ends {
+        tables: [ours, theirs],
+        cuts: [cut, cut],
+    };
+    let mut exchange = Exchange::open(case, &ends)?;
+    exchange.finish(case)?;
+    same(&exchange.marks, &[1, 0, 0], "marks")?;
+    same(&exchange.list, &id_from(&[0xaa]), "the needed list and AA")
+}
+
+/// Skips are merged, a last one is not written, and an answer of skips alone is 61.
+fn skips(case: &mut Case<'_, '_>) -> Check {
+    let answers = [
+        ("61 06 00 00 03 00 00 03 00 02 00", "61 08 00 00 03 00 02 00"),
+        ("61 0A 00 02 00 02 00 00 02 00 00", "61 0A 00 02 00"),
+        ("61 06 00 00 03 00 00", "61"),
+        ("61", "61"),
+        ("61 00 00 01 7f9c9e31ac8256ca2f258583df262dbc", "61"),
+        ("61 00 00 01 7f9c9e31ac8256ca2f258583df262dbd", "61 00 00 02 00"),
+    ];
+    answers
+        .iter()
+        .try_for_each(|(query, answer)| answered(case, query, answer))
+}
+
+/// Replies of skips alone, replies that stop early, and one with a fingerprint.
+fn short_replies(case: &mut Case<'_, '_>) -> Check {
+    let two = table(&[(5, &[1]), (7, &[3])]);
+    for (reply, marked) in [("61", 0), ("61 06 00 00", 0), ("61 00 00 00", 0), ("61 07 00 02 00", 1)] {
+        session(&taken(case, &two, reply)?, marked, 0, true)?;
+    }
+    let other = taken(case, &two, "61 07 00 01 07*16")?;
+    written(&other, "61 07 00 02 01 01 00*31")?;
+    session(&other, 0, 0, false)
+}

@@ -1,0 +1,135 @@
+//! The kinds of cases, a file for each.
+mod damaged;
+mod digests;
+mod examples;
+mod fingerprints;
+mod limits;
+mod lists;
+mod refusals;
+mod room;
+mod sessions;
+mod tables;
+
+use crate::compare::{Check, Comparer};
+use crate::guard;
+use crate::input::{After, Input};
+use crate::rng::Rng;
+use std::panic::{catch_unwind, AssertUnwindSafe};
+
+/// One case: all that it does is fixed by its kind, its seed, its index and whether it is of the long run.
+pub struct Case<'a, 'b> {
+    pub comparer: &'a mut Comparer<'b>,
+    pub rng: Rng,
+    pub index: u64,
+    pub long: bool,
+}
+
+impl Case<'_, '_> {
+    /// Makes a call with both implementations; its number has to be this one, 0 for no refusal.
+    pub fn expect(&mut self, input: &Input<'_>, number: u8) -> Check<After> {
+        let after = self.comparer.call(input)?;
+        expect_number(after.number(), number)?;
+        Ok(after)
+    }
+
+    /// What a lawful call needs: out bytes, and ids of the needed buffer.
+    pub fn room(&self, input: &Input<'_>) -> Check<(usize, usize)> {
+        let room = self.comparer.room(input);
+        room.ok_or_else(|| format!("{}: the reference refuses a lawful call", input.call.name()))
+    }
+}
+
+pub fn expect_number(told: u8, expected: u8) -> Check {
+    if told != expected {
+        return Err(format!("{} expected, both say {}", expected, told));
+    }
+    Ok(())
+}
+
+pub struct Kind {
+    pub name: &'static str,
+    /// How many cases a run has.
+    pub cases: fn(long: bool) -> u64,
+    run: fn(&mut Case<'_, '_>) -> Check,
+}
+
+macro_rules! kind {
+    ($name:ident) => {
+        Kind {
+            name: stringify!($name),
+            cases: $name::cases,
+            run: $name::run,
+        }
+    };
+}
+
+pub static KINDS: [Kind; 10] = [
+    kind!(examples),
+    kind!(refusals),
+    kind!(damaged),
+    kind!(tables),
+    kind!(sessions),
+    kind!(room),
+    kind!(fingerprints),
+    kind!(limits),
+    kind!(lists),
+    kind!(digests),
+];
+
+pub fn kind_named(name: &str) -> Option<&'static Kind> {
+    KINDS.iter().find(|kind| kind.name == name)
+}
+
+/// What names a case.
+pub struct Label {
+    pub kind: &'static Kind,
+    pub seed: u64,
+    index: u64,
+    long: bool,
+}
+
+impl Label {
+    pub fn new(kind: &'static Kind, seed: u64, index: u64, long: bool) -> Label {
+        Label {
+            kind,
+            seed,
+            index,
+            long,
+        }
+    }
+
+    /// The command that runs the case again.
+    pub fn command(&self) -> String {
+        let program = std::env::args().next().unwrap_or_else(|| "compare".to_string());
+        let long = if self.long { "--long " } else { "" };
+        format!(
+            "{} {}--case {}:{}:{}",
+            program, long, self.kind.name, self.seed, self.index
+        )
+    }
+
+    /// Runs the case. A panic is a difference too, and a touched guard page ends the program with the command.
+    pub fn run(&self, comparer: &mut Comparer<'_>) -> Check {
+        guard::set_text(&format!(
+            "DIFFERENCE in kind {}, seed {}: a call touches memory beyond what it was lent\nrun again: {}\n",
+            self.kind.name,
+            self.seed,
+            self.command()
+        ));
+        comparer.start_case(self.index);
+        let rng = Rng::of_case(self.seed, self.kind.name, self.index);
+        let mut case = Case {
+            comparer,
+            rng,
+            index: self.index,
+            long: self.long,
+        };
+        catch_unwind(AssertUnwindSafe(|| (self.kind.run)(&mut case))).unwrap_or_else(|panic| {
+            let text = panic
+                .downcast_ref::<String>()
+                .map(String::as_str)
+                .or_else(|| panic.downcast_ref().copied());
+            Err(format!("a panic: {}", text.unwrap_or("without text")))
+        })
+    }
+}

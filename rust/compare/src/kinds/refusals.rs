@@ -1,0 +1,143 @@
+//! Each fault of each call, and each two faults of a call at once, in both orders.
+use super::{expect_number, Case};
+use crate::calls::Call;
+use crate::compare::Check;
+use crate::exchange::End;
+use crate::faults::{faults_of, Draft, Fault};
+use crate::generate::{first_16, id_from, OwnedTable};
+use crate::input::NEW_SESSION;
+use crate::rng::Rng;
+use recon::{Cut, Session};
+use reference::{Bound, Payload, Range};
+
+/// How many faults the calls have together. A case is a first fault, alone and with each second one.
+fn first_faults() -> usize {
+    Call::ALL.iter().map(|&call| faults_of(call).len()).sum()
+}
+
+/// Each first fault with several lawful inputs.
+pub fn cases(long: bool) -> u64 {
+    let inputs = if long { 8 } else { 4 };
+    inputs * first_faults() as u64
+}
+
+pub fn run(case: &mut Case<'_, '_>) -> Check {
+    let mut index = case.index as usize % first_faults();
+    for call in Call::ALL {
+        let faults = faults_of(call);
+        if index < faults.len() {
+            return with_first(case, call, &faults, index);
+        }
+        index -= faults.len();
+    }
+    Err("there is no such case".to_string())
+}
+
+/// A lawful input, and that input with the first fault and then each other.
+fn with_first(case: &mut Case<'_, '_>, call: Call, faults: &[Fault], first: usize) -> Check {
+    let lawful = lawful(case, call)?;
+    case.expect(&lawful.input(), 0)?;
+    for (second, fault) in faults.iter().enumerate() {
+        let mut draft = lawful.clone();
+        faults[first].spoil(&mut draft);
+        if first != second {
+            fault.spoil(&mut draft);
+        }
+        let expected = expected(&faults[first], fault, first == second);
+        with_faults(case, &draft, expected)
+            .map_err(|text| format!("{}; {}: {}", faults[first].name, fault.name, text))?;
+    }
+    Ok(())
+}
+
+fn with_faults(case: &mut Case<'_, '_>, draft: &Draft, expected: Option<u8>) -> Check {
+    let told = case.comparer.call(&draft.input())?.number();
+    expected.map_or(Ok(()), |expected| expect_number(told, expected))
+}
+
+/// The number that two faults give, as far as it can be said without reading. Two faults of the same number may undo
+/// each other, and bytes behind a message that ends too early may complete it.
+fn expected(first: &Fault, second: &Fault, is_same: bool) -> Option<u8> {
+    let by_reading = |fault: &Fault| matches!(fault.number, 7..=10);
+    if is_same {
+        Some(first.number)
+    } else if by_reading(first) && by_reading(second) {
+        // The first fault met counts.
+        Some(first.number).filter(|&number| number != 7)
+    } else if first.number == second.number {
+        None
+    } else {
+        Some(first.number.min(second.number))
+    }
+}
+
+/// A lawful input with exact room that every check looks at: items, marks of both kinds, a list with ids to come.
+fn lawful(case: &mut Case<'_, '_>, call: Call) -> Check<Draft> {
+    let rng = &mut case.rng;
+    let count = rng.between(3, 9);
+    let table = rising_table(rng, count);
+    let parts = rng.between(2, 3);
+    let limit = parts + rng.below(2);
+    let end = End {
+        table: &table,
+        cut: Cut { parts, limit },
+    };
+    let (session, marks, mut needed) = state(rng, call, count);
+    let message = open_message(rng, &table);
+    let input = end.input(call).with_state(session, &marks, &needed);
+    let input = if call == Call::Open {
+        input
+    } else {
+        input.with_message(&message)
+    };
+    let (length, ids) = case.room(&input)?;
+    let out = case.rng.bytes(length);
+    let mut draft = Draft::of(&input.with_out(&out));
+    if call == Call::Take {
+        needed.resize(32 * ids, 0xee);
+        draft.needed = needed;
+    }
+    Ok(draft)
+}
+
+/// Session, marks and needed bytes for a call.
+fn state(rng: &mut Rng, call: Call, count: usize) -> (Session, Vec<u8>, Vec<u8>) {
+    match call {
+        Call::Open => (NEW_SESSION, rng.bytes(count), rng.bytes(64)),
+        Call::Answer => (NEW_SESSION, Vec::new(), Vec::new()),
+        Call::Take => {
+            let mut marks: Vec<u8> = (0..count).map(|_| rng.below(2) as u8).collect();
+            marks[..2].copy_from_slice(&[1, 0]);
+            let marked = marks.iter().filter(|&&mark| mark == 1).count();
+            let mut ids = [rng.id(), rng.id(), rng.id()];
+            ids.sort_unstable();
+            let needed = ids.len();
+            let session = Session {
+                marked,
+                needed,
+                done: false,
+            };
+            (session, marks, ids.concat())
+        }
+    }
+}
+
+/// Items of rising times and rising ids.
+fn rising_table(rng: &mut Rng, count: usize) -> OwnedTable {
+    let items: Vec<_> = (0..count)
+        .map(|i| (10 * i as u64 + 5, id_from(&[i as u8 + 1, rng.byte(), 3])))
+        .collect();
+    OwnedTable::of(&items)
+}
+
+/// New ids below the second item, another fingerprint up to the last one; it ends at a finite bound without prefix.
+fn open_message(rng: &mut Rng, table: &OwnedTable) -> Vec<u8> {
+    let range = |at: usize, payload| {
+        let (time, prefix) = (table.times[at], Vec::new());
+        let upper = Bound::At { time, prefix };
+        Range { upper, payload }
+    };
+    let ids = Payload::Ids(vec![rng.id(), rng.id()]);
+    let fingerprint = Payload::Fingerprint(first_16(&rng.id()));
+    reference::spell(&[range(1, ids), range(table.count() - 1, fingerprint)])
+}

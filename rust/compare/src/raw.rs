@@ -1,0 +1,130 @@
+//! The C calls where they can say more than the safe crate: the session of a refused call, and a prefix at infinity.
+//! Declared as in include/recon.h.
+use crate::calls::{Call, GivenBound, Lent};
+use recon::{Session, Table};
+
+#[repr(C)]
+#[derive(Clone, Copy)]
+struct CSession {
+    marked: usize,
+    needed: usize,
+    done: bool,
+}
+
+#[repr(C)]
+struct CAnswer {
+    refusal: u64,
+    _length: usize,
+}
+
+#[repr(C)]
+struct CSessionAnswer {
+    refusal: u64,
+    _length: usize,
+    session: CSession,
+}
+
+#[rustfmt::skip]
+extern "C" {
+    fn recon_open(
+        times: *const u64, times_len: usize, ids: *const u8, ids_len: usize, parts: usize, limit: usize,
+        marks: *mut u8, marks_len: usize, needed: *const u8, needed_len: usize, out: *mut u8, out_len: usize,
+    ) -> CSessionAnswer;
+    fn recon_answer(
+        times: *const u64, times_len: usize, ids: *const u8, ids_len: usize, parts: usize, limit: usize,
+        query: *const u8, query_len: usize, out: *mut u8, out_len: usize,
+    ) -> CAnswer;
+    fn recon_take(
+        times: *const u64, times_len: usize, ids: *const u8, ids_len: usize, parts: usize, limit: usize,
+        reply: *const u8, reply_len: usize, session: CSession, marks: *mut u8, marks_len: usize,
+        needed: *mut u8, needed_len: usize, out: *mut u8, out_len: usize,
+    ) -> CSessionAnswer;
+    fn recon_fingerprint(
+        times: *const u64, times_len: usize, ids: *const u8, ids_len: usize,
+        lower_infinite: bool, lower_time: u64, lower_prefix: *const u8, lower_prefix_len: usize,
+        upper_infinite: bool, upper_time: u64, upper_prefix: *const u8, upper_prefix_len: usize, out: *mut u8,
+    ) -> u64;
+}
+
+/// The number and the session that a C call answers with.
+pub struct Told {
+    pub refusal: u64,
+    pub session: Session,
+}
+
+impl Told {
+    fn of(refusal: u64, session: CSession) -> Told {
+        let CSession { marked, needed, done } = session;
+        let session = Session { marked, needed, done };
+        Told { refusal, session }
+    }
+}
+
+/// Makes a C call. An answer has no session: the one that was lent is told.
+pub fn run(call: Call, lent: &mut Lent<'_>) -> Told {
+    let Session { marked, needed, done } = lent.session;
+    let session = CSession { marked, needed, done };
+    match call {
+        Call::Open => open(lent),
+        Call::Answer => Told::of(answer(lent), session),
+        Call::Take => take(lent, session),
+    }
+}
+
+// SAFETY of the calls below: every pointer comes from a slice with the length beside it, so it is not null and points
+// to as many elements; the written slices are borrowed mutably, so they overlap no other. The calls ask for no more.
+
+#[rustfmt::skip]
+fn open(lent: &mut Lent<'_>) -> Told {
+    let (Table { times, ids }, cut) = (lent.table, lent.cut);
+    // SAFETY: see above.
+    let answer = unsafe {
+        recon_open(
+            times.as_ptr(), times.len(), ids.as_ptr(), ids.len(), cut.parts, cut.limit,
+            lent.marks.as_mut_ptr(), lent.marks.len(), lent.needed.as_ptr(), lent.needed.len(),
+            lent.out.as_mut_ptr(), lent.out.len(),
+        )
+    };
+    Told::of(answer.refusal, answer.session)
+}
+
+#[rustfmt::skip]
+fn answer(lent: &mut Lent<'_>) -> u64 {
+    let (Table { times, ids }, cut) = (lent.table, lent.cut);
+    // SAFETY: see above.
+    let answer = unsafe {
+        recon_answer(
+            times.as_ptr(), times.len(), ids.as_ptr(), ids.len(), cut.parts, cut.limit,
+            lent.message.as_ptr(), lent.message.len(), lent.out.as_mut_ptr(), lent.out.len(),
+        )
+    };
+    answer.refusal
+}
+
+#[rustfmt::skip]
+fn take(lent: &mut Lent<'_>, session: CSession) -> Told {
+    let (Table { times, ids }, cut) = (lent.table, lent.cut);
+    // SAFETY: see above.
+    let answer = unsafe {
+        recon_take(
+            times.as_ptr(), times.len(), ids.as_ptr(), ids.len(), cut.parts, cut.limit,
+            lent.message.as_ptr(), lent.message.len(), session, lent.marks.as_mut_ptr(), lent.marks.len(),
+            lent.needed.as_mut_ptr(), lent.needed.len(), lent.out.as_mut_ptr(), lent.out.len(),
+        )
+    };
+    Told::of(answer.refusal, answer.session)
+}
+
+/// The C fingerprint call: its refusal, or 0 and the fingerprint in `out`.
+#[rustfmt::skip]
+pub fn fingerprint(table: Table<'_>, lower: GivenBound<'_>, upper: GivenBound<'_>, out: &mut [u8; 16]) -> u64 {
+    let Table { times, ids } = table;
+    // SAFETY: see above; `out` has the 16 bytes that the call may write.
+    unsafe {
+        recon_fingerprint(
+            times.as_ptr(), times.len(), ids.as_ptr(), ids.len(),
+            lower.infinite, lower.time, lower.prefix.as_ptr(), lower.prefix.len(),
+            upper.infinite, upper.time, upper.prefix.as_ptr(), upper.prefix.len(), out.as_mut_ptr(),
+        )
+    }
+}

@@ -1,0 +1,138 @@
+//! Runs the cases of all kinds, or one of them, on the library and the reference, and prints what was compared.
+use crate::calls::{Call, Library, Reference};
+use crate::compare::{Comparer, Counts};
+use crate::kinds::{Kind, Label, KINDS};
+use std::time::{Duration, Instant};
+
+/// Runs all kinds; the long run goes on with one seed after another until the time is over. Whether nothing differs.
+pub fn all(first_seed: u64, long: bool, time: Option<Duration>) -> bool {
+    let start = Instant::now();
+    let is_over = || time.map_or(false, |time| start.elapsed() >= time);
+    let mut totals = Counts::default();
+    let mut seed = first_seed;
+    loop {
+        println!("seed {}{}", seed, if long { ", long run" } else { "" });
+        for kind in &KINDS {
+            match run_kind(kind, seed, long, &is_over) {
+                Some(counts) => totals.add(&counts),
+                None => return false,
+            }
+        }
+        if !long || is_over() {
+            break;
+        }
+        seed = seed.wrapping_add(1);
+    }
+    print_totals(&totals);
+    let whole = seed != first_seed || !is_over();
+    if whole && !all_came_up(&totals) {
+        return false;
+    }
+    let (cases, calls, guarded) = (totals.cases, totals.calls, totals.guarded);
+    let time = format!(
+        "{} s{}",
+        start.elapsed().as_secs(),
+        if is_over() { ", stopped by time" } else { "" }
+    );
+    println!(
+        "{} cases, {} calls compared, {} beside inaccessible pages; no difference; {}",
+        cases, calls, guarded, time
+    );
+    true
+}
+
+/// The cases of one kind; none if one of them differs.
+fn run_kind(kind: &'static Kind, seed: u64, long: bool, is_over: &dyn Fn() -> bool) -> Option<Counts> {
+    let since = Instant::now();
+    let mut comparer = Comparer::new(&Library, &Reference);
+    for index in 0..(kind.cases)(long) {
+        if is_over() {
+            break;
+        }
+        let label = Label::new(kind, seed, index, long);
+        if let Err(text) = label.run(&mut comparer) {
+            print_difference(&label, &text);
+            return None;
+        }
+    }
+    let Counts { cases, calls, .. } = comparer.counts;
+    println!(
+        "{:<13}{:>6} cases, {:>8} calls compared; {:.1} s",
+        kind.name,
+        cases,
+        calls,
+        since.elapsed().as_secs_f64()
+    );
+    Some(comparer.counts)
+}
+
+fn print_difference(label: &Label, text: &str) {
+    println!(
+        "DIFFERENCE in kind {}, seed {}: {}\nrun again: {}",
+        label.kind.name,
+        label.seed,
+        text,
+        label.command()
+    );
+}
+
+/// How often each call gave each number, and what the sessions came to.
+fn print_totals(totals: &Counts) {
+    for call in Call::ALL {
+        let numbers = &totals.numbers[call as usize];
+        let refusals: Vec<String> = (1..=12)
+            .filter(|&number| call.can_refuse_by(number))
+            .map(|number| format!("{}: {}", number, numbers[usize::from(number)]))
+            .collect();
+        println!(
+            "{:<7}not refused: {}; refused by {}",
+            call.name(),
+            numbers[0],
+            refusals.join(", ")
+        );
+    }
+    println!(
+        "{} sessions done by {} takes, {} of them late or repeated; {} ended with the last reply that L allows; \
+         {} differences unreported, all in colliding ranges",
+        totals.sessions, totals.takes, totals.late, totals.full_rows, totals.excused
+    );
+}
+
+/// Whether every number that a call can give has come up and no other, and all that sessions are meant to show.
+fn all_came_up(totals: &Counts) -> bool {
+    for call in Call::ALL {
+        for number in 1..=12 {
+            let seen = totals.numbers[call as usize][usize::from(number)] > 0;
+            if seen != call.can_refuse_by(number) {
+                println!("FAILED: {} gave refusal {}: {}", call.name(), number, seen);
+                return false;
+            }
+        }
+    }
+    let shown = [
+        totals.sessions,
+        totals.late,
+        totals.full_rows,
+        totals.excused,
+        totals.guarded,
+    ];
+    if shown.contains(&0) {
+        println!("FAILED: something never came up that the sessions are meant to show");
+        return false;
+    }
+    true
+}
+
+/// Runs one case again and prints its inputs. Whether nothing differs.
+pub fn one(label: &Label) -> bool {
+    let mut comparer = Comparer::new(&Library, &Reference);
+    comparer.show = true;
+    match label.run(&mut comparer) {
+        Ok(()) => println!("{} calls compared, no difference", comparer.counts.calls),
+        Err(text) => {
+            print_difference(label, &text);
+            return false;
+        }
+    }
+    true
+}

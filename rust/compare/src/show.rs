@@ -1,0 +1,63 @@
+//! Inputs as text, in full.
+use crate::calls::{Call, GivenBound};
+use crate::input::Input;
+use recon::Table;
+use std::fmt::Write;
+
+pub fn hex(bytes: &[u8]) -> String {
+    bytes
+        .iter()
+        .fold(String::with_capacity(2 * bytes.len()), |mut text, byte| {
+            write!(text, "{:02x}", byte).expect("a string takes all");
+            text
+        })
+}
+
+/// A byte string in words.
+fn bytes(bytes: &[u8]) -> String {
+    format!("{} bytes {}", bytes.len(), hex(bytes))
+}
+
+fn table(table: Table<'_>) -> String {
+    let mut text = format!("  table: {} times, {} id bytes\n", table.times.len(), table.ids.len());
+    let mut ids = table.ids.chunks(32);
+    for time in table.times {
+        text += &format!("    {} {}\n", time, hex(ids.next().unwrap_or(&[])));
+    }
+    for id in ids {
+        text += &format!("    (no time) {}\n", hex(id));
+    }
+    text
+}
+
+pub fn input(input: &Input<'_>) -> String {
+    let mut text = format!("{}\n{}", input.call.name(), table(input.table));
+    text += &format!("  parts {}, limit {}\n", input.cut.parts, input.cut.limit);
+    if input.call != Call::Open {
+        text += &format!("  message: {}\n", bytes(input.message));
+    }
+    if input.call == Call::Take {
+        text += &format!("  {:?}\n", input.session);
+    }
+    if input.call != Call::Answer {
+        text += &format!("  marks: {}\n  needed: {}\n", bytes(input.marks), bytes(input.needed));
+    }
+    text + &format!("  out: {}\n", bytes(input.out))
+}
+
+pub fn fingerprint(of: Table<'_>, lower: GivenBound<'_>, upper: GivenBound<'_>) -> String {
+    let bound = |bound: GivenBound<'_>| {
+        let time = if bound.infinite {
+            format!("infinity, {}", bound.time)
+        } else {
+            bound.time.to_string()
+        };
+        format!("{}, prefix of {}", time, bytes(bound.prefix))
+    };
+    format!(
+        "fingerprint\n{}  lower: {}\n  upper: {}\n",
+        table(of),
+        bound(lower),
+        bound(upper)
+    )
+}

@@ -1,0 +1,128 @@
+//! The calls of include/recon.h. Each is safe for every slice: a slice's pointer is not null and points to as many elements as its length
+//! says, the borrows keep written slices apart from all others, and the calls themselves have no condition.
+use crate::{Bound, Cut, Session, Table};
+
+#[repr(C)]
+#[derive(Clone, Copy)]
+pub struct RawSession {
+    marked: usize,
+    needed: usize,
+    done: bool,
+}
+
+#[repr(C)]
+pub struct Answer {
+    pub refusal: u64,
+    pub length: usize,
+}
+
+#[repr(C)]
+pub struct SessionAnswer {
+    pub refusal: u64,
+    pub length: usize,
+    pub session: RawSession,
+}
+
+impl From<RawSession> for Session {
+    fn from(s: RawSession) -> Session {
+        Session {
+            marked: s.marked,
+            needed: s.needed,
+            done: s.done,
+        }
+    }
+}
+
+#[rustfmt::skip]
+extern "C" {
+    fn recon_open(
+        times: *const u64, times_len: usize, ids: *const u8, ids_len: usize, parts: usize, limit: usize,
+        marks: *mut u8, marks_len: usize, needed: *const u8, needed_len: usize, out: *mut u8, out_len: usize,
+    ) -> SessionAnswer;
+    fn recon_answer(
+        times: *const u64, times_len: usize, ids: *const u8, ids_len: usize, parts: usize, limit: usize,
+        query: *const u8, query_len: usize, out: *mut u8, out_len: usize,
+    ) -> Answer;
+    fn recon_take(
+        times: *const u64, times_len: usize, ids: *const u8, ids_len: usize, parts: usize, limit: usize,
+        reply: *const u8, reply_len: usize, session: RawSession, marks: *mut u8, marks_len: usize,
+        needed: *mut u8, needed_len: usize, out: *mut u8, out_len: usize,
+    ) -> SessionAnswer;
+    fn recon_fingerprint(
+        times: *const u64, times_len: usize, ids: *const u8, ids_len: usize,
+        lower_infinite: bool, lower_time: u64, lower_prefix: *const u8, lower_prefix_len: usize,
+        upper_infinite: bool, upper_time: u64, upper_prefix: *const u8, upper_prefix_len: usize, out: *mut u8,
+    ) -> u64;
+    fn recon_sha256(m: *const u8, m_len: usize, out: *mut u8);
+}
+
+#[rustfmt::skip]
+pub fn open(table: Table<'_>, cut: Cut, marks: &mut [u8], needed: &[u8], out: &mut [u8]) -> SessionAnswer {
+    // SAFETY: see the head of this file.
+    unsafe {
+        recon_open(
+            table.times.as_ptr(), table.times.len(), table.ids.as_ptr(), table.ids.len(), cut.parts, cut.limit,
+            marks.as_mut_ptr(), marks.len(), needed.as_ptr(), needed.len(), out.as_mut_ptr(), out.len(),
+        )
+    }
+}
+
+#[rustfmt::skip]
+pub fn answer(table: Table<'_>, cut: Cut, query: &[u8], out: &mut [u8]) -> Answer {
+    // SAFETY: see the head of this file.
+    unsafe {
+        recon_answer(
+            table.times.as_ptr(), table.times.len(), table.ids.as_ptr(), table.ids.len(), cut.parts, cut.limit,
+            query.as_ptr(), query.len(), out.as_mut_ptr(), out.len(),
+        )
+    }
+}
+
+#[rustfmt::skip]
+pub fn take(
+    table: Table<'_>,
+    cut: Cut,
+    reply: &[u8],
+    session: Session,
+    marks: &mut [u8],
+    needed: &mut [u8],
+    out: &mut [u8],
+) -> SessionAnswer {
+    let session = RawSession { marked: session.marked, needed: session.needed, done: session.done };
+    // SAFETY: see the head of this file.
+    unsafe {
+        recon_take(
+            table.times.as_ptr(), table.times.len(), table.ids.as_ptr(), table.ids.len(), cut.parts, cut.limit,
+            reply.as_ptr(), reply.len(), session, marks.as_mut_ptr(), marks.len(),
+            needed.as_mut_ptr(), needed.len(), out.as_mut_ptr(), out.len(),
+        )
+    }
+}
+
+#[rustfmt::skip]
+pub fn fingerprint(table: Table<'_>, lower: Bound<'_>, upper: Bound<'_>, out: &mut [u8; 16]) -> u64 {
+    let (lower_infinite, lower_time, lower_prefix) = parts(lower);
+    let (upper_infinite, upper_time, upper_prefix) = parts(upper);
+    // SAFETY: see the head of this file.
+    unsafe {
+        recon_fingerprint(
+            table.times.as_ptr(), table.times.len(), table.ids.as_ptr(), table.ids.len(),
+            lower_infinite, lower_time, lower_prefix.as_ptr(), lower_prefix.len(),
+            upper_infinite, upper_time, upper_prefix.as_ptr(), upper_prefix.len(), out.as_mut_ptr(),
+        )
+    }
+}
+
+fn parts(bound: Bound<'_>) -> (bool, u64, &[u8]) {
+    match bound {
+        Bound::Infinity => (true, 0, &[]),
+        Bound::At { time, prefix } => (false, time, prefix),
+    }
+}
+
+pub fn sha256(message: &[u8]) -> [u8; 32] {
+    let mut digest = [0; 32];
+    // SAFETY: see the head of this file.
+    unsafe { recon_sha256(message.as_ptr(), message.len(), digest.as_mut_ptr()) };
+    digest
+}

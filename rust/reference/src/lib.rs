@@ -1,0 +1,27 @@
+//! Range-based set reconciliation with the bytes of the Negentropy Protocol V1.
+//!
+//! A plain reference, written from the specification and without dependencies. The files follow its headings:
+//! `bound` and `table` (Tables and bounds), `label` and `sha256` (Fingerprints), `cursor` and `message` (Messages),
+//! `cutting` (Cutting), `ends` (The two ends), `refusal` (In checking order).
+//!
+//! Quotation marks in comments hold words of the specification. Every refusal is its number there, in `Err`.
+//! A refused call has changed no lent byte.
+
+#![forbid(unsafe_code)]
+#![warn(missing_docs)]
+
+mod bound;
+mod cursor;
+mod cutting;
+mod ends;
+mod label;
+mod message;
+mod refusal;
+mod sha256;
+mod table;
+
+pub use bound::Bound;
+pub use ends::{answer, fingerprint, open, take, GivenBound, Sent, Session};
+pub use message::{read, spell, tidy, write, Payload, Range};
+pub use sha256::sha256;
+pub use table::MAX_ITEMS;

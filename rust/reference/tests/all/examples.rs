@@ -1,0 +1,331 @@
+//! E1 to E11 of the specification, and byte examples of answer, open and take.
+
+use crate::sessions::Opener;
+use crate::support::{at, bytes, id, joined, last, range, Lent, INFINITY};
+use reference::{read, spell, Payload, Session};
+
+/// The query that a table opens with.
+fn opened(table: &Lent, b: usize, t: usize) -> Vec<u8> {
+    Opener::open(table.clone(), b, t).1
+}
+
+fn e4_table() -> Lent {
+    Lent::new(&[(5, id(1)), (5, id(2)), (7, id(3))])
+}
+
+fn e5_table() -> Lent {
+    Lent::new(&[(5, id(1)), (5, id(2)), (5, id(3))])
+}
+
+/// Varints as the time codes of a bound, the mode 0 and the count 0.
+#[test]
+fn e1_varints() {
+    let table = [(127, "7F"), (128, "81 00"), (300, "82 2C"), (u64::MAX, "81 FF*8 7F")];
+    for (code, varint) in table {
+        let message = joined(&[&[0x61], &bytes(varint), &[0, 0]]);
+        let ranges = [range(code - 1, &[], Payload::Skip)];
+        assert_eq!(spell(&ranges), message, "{code}");
+        assert_eq!(read(&message).unwrap(), ranges, "{code}");
+    }
+    assert_eq!(spell(&[last(Payload::Skip)]), bytes("61 00 00 00"));
+}
+
+#[test]
+fn e2_refused_varints() {
+    assert_eq!(read(&bytes("61 80")), Err(8));
+    assert_eq!(read(&bytes("61 82 80*8 00")), Err(8));
+}
+
+#[test]
+fn e3_empty_tables() {
+    let empty = Lent::default();
+    let (mut opener, query) = Opener::open(empty.clone(), 2, 2);
+    assert_eq!(query, bytes("61 00 00 02 00"));
+    let reply = empty.answer(2, 2, &query).unwrap();
+    assert_eq!(reply, query);
+    assert_eq!(opener.take(&reply, 0, 0), Ok(vec![]));
+    assert_eq!(
+        opener.session,
+        Session {
+            marked: 0,
+            needed: 0,
+            done: true
+        }
+    );
+}
+
+#[test]
+fn e4_first_query() {
+    let table = e4_table();
+    let f = table.fingerprint(&at(0, &[]), &at(7, &[])).unwrap();
+    let g = table.fingerprint(&at(7, &[]), &INFINITY).unwrap();
+    let query = opened(&table, 2, 2);
+    assert_eq!(query, joined(&[&bytes("61 08 00 01"), &f, &bytes("00 00 01"), &g]));
+    assert_eq!(query.len(), 39);
+    // The bytes in full.
+    let full = "61 08 00 01 055ec405febfad804c1c5638d7369361 00 00 01 7e839d7aa6d079f68e2589f6c668a00f";
+    assert_eq!(query, bytes(full));
+    // The two other fingerprints there: of the first item, and of the second and third.
+    let first = table.fingerprint(&at(0, &[]), &at(5, &[2])).unwrap();
+    assert_eq!(first.to_vec(), bytes("2e255099d6d6bee307c8e7075acc78f9"));
+    let others = table.fingerprint(&at(5, &[2]), &INFINITY).unwrap();
+    assert_eq!(others.to_vec(), bytes("d27c48779563ae9b8f7bfc1ba05462c8"));
+}
+
+#[test]
+fn e5_first_query() {
+    let table = e5_table();
+    let f = table.fingerprint(&at(0, &[]), &at(5, &[3])).unwrap();
+    let g = table.fingerprint(&at(5, &[3]), &INFINITY).unwrap();
+    let query = opened(&table, 2, 2);
+    assert_eq!(query, joined(&[&bytes("61 06 01 03 01"), &f, &bytes("00 00 01"), &g]));
+    assert_eq!(query.len(), 40);
+}
+
+#[test]
+fn e6_parts() {
+    let items: Vec<_> = (1..8).map(|i| (10 * u64::from(i), id(i))).collect();
+    let table = Lent::new(&items);
+    let part = |lower, upper| Payload::Fingerprint(table.fingerprint(&lower, &upper).unwrap());
+    let expected = [
+        range(40, &[], part(at(10, &[]), at(31, &[]))),
+        range(60, &[], part(at(40, &[]), at(51, &[]))),
+        last(part(at(60, &[]), at(71, &[]))),
+    ];
+    assert_eq!(read(&opened(&table, 3, 3)).unwrap(), expected);
+    assert_eq!(
+        table.answer(3, 3, &bytes("61 00 00 01 00*16")).unwrap(),
+        spell(&expected)
+    );
+}
+
+#[test]
+fn e7_equal_bound() {
+    assert_eq!(read(&bytes("61 06 00 00 01 00 00")), Err(9));
+}
+
+#[test]
+fn e8_prefix_at_infinity_and_mode() {
+    assert_eq!(read(&bytes("61 00 01 07 00")), Err(9));
+    assert_eq!(read(&bytes("61 00 00 03")), Err(10));
+}
+
+#[test]
+fn e9_fingerprint_cut_short() {
+    assert_eq!(read(&bytes("61 00 00 01 AB*15")), Err(7));
+    assert_eq!(
+        read(&bytes("61 00 00 01 AB*16")).unwrap(),
+        [last(Payload::Fingerprint([0xab; 16]))]
+    );
+}
+
+#[test]
+fn e10_count_is_hashed() {
+    let table = Lent::new(&[(5, id(1)), (6, [0xff; 32])]);
+    let own = table.fingerprint(&at(0, &[]), &INFINITY).unwrap();
+    assert_eq!(own, reference::sha256(&bytes("00*32 02"))[..16]);
+    assert_ne!(Ok(own), Lent::default().fingerprint(&at(0, &[]), &INFINITY));
+}
+
+#[test]
+fn e11_one_item() {
+    let (mut opener, query) = Opener::open(Lent::new(&[(5, id(9))]), 2, 2);
+    assert_eq!(query, joined(&[&bytes("61 00 00 02 01"), &id(9)]));
+    assert_eq!(opener.take(&bytes("61 00 00 02 00"), 0, 0), Ok(vec![]));
+    assert_eq!(opener.marks, [1]);
+    assert_eq!(
+        opener.session,
+        Session {
+            marked: 1,
+            needed: 0,
+            done: true
+        }
+    );
+}
+
+/// An own id listed under another range than its item's is marked and needed.
+#[test]
+fn k4_id_in_another_range() {
+    let (mut opener, _) = Opener::open(Lent::new(&[(5, id(1))]), 2, 2);
+    let reply = joined(&[&bytes("61 07 00 02 00 00 00 02 01"), &id(1)]);
+    assert_eq!(opener.take(&reply, 1, 0), Ok(vec![]));
+    assert_eq!(opener.marks, [1]);
+    assert_eq!(opener.needed, [id(1)]);
+    assert_eq!(
+        opener.session,
+        Session {
+            marked: 1,
+            needed: 1,
+            done: true
+        }
+    );
+}
+
+/// An id that stands under two times is marked and needed although both ends have it.
+#[test]
+fn d2_id_under_two_times() {
+    let ours = Lent::new(&[(5, id(0xaa)), (6, id(1)), (8, id(2))]);
+    let theirs = Lent::new(&[(6, id(1)), (8, id(2)), (9, id(0xaa))]);
+    let (mut opener, mut query) = Opener::open(ours, 2, 2);
+    while !opener.session.done {
+        let reply = theirs.answer(2, 2, &query).unwrap();
+        query = opener.take(&reply, 3, 300).unwrap();
+    }
+    assert_eq!(opener.marks, [1, 0, 0]);
+    assert_eq!(opener.needed, [id(0xaa)]);
+}
+
+/// Ids in a query always give ids, whatever they are and however many its own are.
+#[test]
+fn ids_give_ids() {
+    let table = e4_table();
+    let all = joined(&[&bytes("61 00 00 02 03"), &table.ids]);
+    assert_eq!(table.answer(2, 2, &bytes("61 00 00 02 00")).unwrap(), all);
+    assert_eq!(table.answer(2, 2, &all).unwrap(), all);
+    let low = bytes("61 03 00 02 00");
+    assert_eq!(table.answer(2, 2, &low).unwrap(), low);
+    assert_eq!(table.answer(2, 2, &bytes("61 03 00 02 01 AA*32")).unwrap(), low);
+}
+
+/// Equal fingerprints give skip, also of empty ranges; another gives ids even if it has none.
+#[test]
+fn fingerprints_in_a_query() {
+    let table = e4_table();
+    let empty = "7f9c9e31ac8256ca2f258583df262dbc";
+    let query = bytes(&format!("61 05 00 01 {empty} 02 00 02 00"));
+    assert_eq!(table.answer(2, 2, &query).unwrap(), bytes("61 05 00 00 02 00 02 00"));
+    let query = bytes("61 05 00 01 AA*16");
+    assert_eq!(table.answer(2, 2, &query).unwrap(), bytes("61 05 00 02 00"));
+    // c = t gives ids.
+    let query = bytes("61 00 00 01 AA*16");
+    let all = joined(&[&bytes("61 00 00 02 03"), &table.ids]);
+    assert_eq!(table.answer(2, 3, &query).unwrap(), all);
+    assert_eq!(table.answer(2, 2, &query).unwrap(), opened(&table, 2, 2));
+}
+
+/// The last part keeps the range's own bound as spelled.
+#[test]
+fn last_bound_as_spelled() {
+    let reply = e5_table().answer(2, 2, &bytes("61 06 03 09 00 00 01 AA*16")).unwrap();
+    let uppers: Vec<_> = read(&reply).unwrap().into_iter().map(|range| range.upper).collect();
+    assert_eq!(uppers[0], range(5, &[3], Payload::Skip).upper);
+    assert_eq!(uppers[1], range(5, &[9, 0, 0], Payload::Skip).upper);
+    assert_eq!(uppers.len(), 2);
+}
+
+/// An id that stands under two times in the range is listed twice.
+#[test]
+fn id_listed_twice() {
+    let table = Lent::new(&[(5, id(1)), (6, id(1))]);
+    let twice = joined(&[&bytes("61 00 00 02 02"), &id(1), &id(1)]);
+    assert_eq!(opened(&table, 2, 2), twice);
+    assert_eq!(table.answer(2, 2, &bytes("61 00 00 02 00")).unwrap(), twice);
+}
+
+/// Equal fingerprints and the bare 61 are done at once; a reply that stops early still counts.
+#[test]
+fn short_replies() {
+    let (opener, query) = Opener::open(e4_table(), 2, 2);
+    for reply in [vec![0x61], query.clone()] {
+        let mut opener = opener.clone();
+        assert_eq!(opener.take(&reply, 0, 0), Ok(vec![]));
+        assert_eq!(
+            opener.session,
+            Session {
+                marked: 0,
+                needed: 0,
+                done: true
+            }
+        );
+    }
+    let mut early = opener.clone();
+    let next = early.take(&bytes("61 08 00 01 AA*16"), 0, 100).unwrap();
+    assert_eq!(next, joined(&[&bytes("61 08 00 02 02"), &id(1), &id(2)]));
+    assert_eq!(
+        early.session,
+        Session {
+            marked: 0,
+            needed: 0,
+            done: false
+        }
+    );
+    // No own item there: an ids range with count 0 is asked for.
+    let mut none = opener;
+    assert_eq!(
+        none.take(&bytes("61 03 00 01 AA*16"), 0, 100).unwrap(),
+        bytes("61 03 00 02 00")
+    );
+}
+
+/// In a take: skip, equal fingerprint and ids all give skips, merged into one.
+#[test]
+fn skips_of_a_take_merge() {
+    let (mut opener, _) = Opener::open(e4_table(), 2, 2);
+    let empty = "7f9c9e31ac8256ca2f258583df262dbc";
+    let reply = bytes(&format!(
+        "61 02 00 00 02 00 01 {empty} 03 00 00 03 00 02 00 00 00 01 AA*16"
+    ));
+    let next = opener.take(&reply, 0, 100).unwrap();
+    assert_eq!(next, joined(&[&bytes("61 07 00 00 00 00 02 01"), &id(3)]));
+    // The item at 5 is in the range up to 6, which lists nothing.
+    assert_eq!(opener.marks, [1, 1, 0]);
+}
+
+/// Repeats in one list, across ranges and with the list count once; the list rises by id.
+#[test]
+fn repeats_count_once() {
+    let (mut opener, _) = Opener::open(Lent::new(&[(5, id(9)), (6, id(2))]), 2, 2);
+    let mut high = [0; 32];
+    high[31] = 7;
+    let first = joined(&[&bytes("61 00 00 02 05"), &id(8), &id(2), &id(8), &id(9), &high]);
+    // A fingerprint before it keeps the session open.
+    let open = joined(&[&bytes("61 02 00 01 AA*16"), &first[1..]]);
+    opener.take(&open, 2, 100).unwrap();
+    assert_eq!(opener.needed, [high, id(8)]);
+    assert_eq!(opener.marks, [0, 0]);
+    let again = joined(&[&bytes("61 03 00 02 01"), &id(8), &bytes("00 00 02 02"), &id(4), &id(8)]);
+    assert_eq!(opener.clone().take(&again, 2, 0), Err(11));
+    assert_eq!(opener.take(&again, 3, 0), Ok(vec![]));
+    assert_eq!(opener.needed, [high, id(4), id(8)]);
+    assert_eq!(opener.marks, [1, 1]);
+}
+
+/// An id listed once serves all own items that have it, and an own item serves every repeat of its id.
+#[test]
+fn repeats_of_own_ids() {
+    let (mut twice, _) = Opener::open(Lent::new(&[(5, id(1)), (6, id(1)), (6, id(2))]), 2, 2);
+    let reply = joined(&[&bytes("61 00 00 02 01"), &id(1)]);
+    assert_eq!(twice.take(&reply, 0, 0), Ok(vec![]));
+    assert_eq!(twice.marks, [0, 0, 1]);
+    let (mut once, _) = Opener::open(Lent::new(&[(5, id(1))]), 2, 2);
+    let reply = joined(&[&bytes("61 00 00 02 03"), &id(1), &id(1), &id(1)]);
+    assert_eq!(once.take(&reply, 0, 0), Ok(vec![]));
+    assert_eq!(
+        once.session,
+        Session {
+            marked: 0,
+            needed: 0,
+            done: true
+        }
+    );
+}
+
+/// Marks set earlier remain, and a later listing or skip clears nothing.
+#[test]
+fn reports_only_grow() {
+    let (mut opener, _) = Opener::open(Lent::new(&[(5, id(1)), (6, id(2))]), 2, 2);
+    let open = "61 02 00 01 AA*16 00 00 02 01";
+    opener.take(&joined(&[&bytes(open), &id(3)]), 4, 100).unwrap();
+    assert_eq!((&opener.marks[..], &opener.needed[..]), (&[1, 1][..], &[id(3)][..]));
+    opener.take(&joined(&[&bytes(open), &id(1)]), 4, 100).unwrap();
+    assert_eq!((&opener.marks[..], &opener.needed[..]), (&[1, 1][..], &[id(3)][..]));
+    assert_eq!(opener.take(&[0x61], 1, 0), Ok(vec![]));
+    assert_eq!(
+        opener.session,
+        Session {
+            marked: 2,
+            needed: 1,
+            done: true
+        }
+    );
+}

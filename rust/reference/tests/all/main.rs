@@ -1,0 +1,12 @@
+//! Tests of the public interface: the specification's examples, byte examples, whole sessions.
+//!
+//! E1 to E11 are the specification's examples.
+
+mod examples;
+mod hashing;
+mod reading;
+mod refusals;
+mod round_trip;
+mod sessions;
+mod support;
+mod writing;

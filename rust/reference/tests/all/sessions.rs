@@ -1,0 +1,434 @@
+//! Whole sessions of two ends: demand 3.
+
+use crate::support::{given, id, Lent, Random, Seed};
+use reference::{read, Bound, Payload, Session};
+use std::cmp::Ordering;
+use std::collections::BTreeSet;
+
+type Id = [u8; 32];
+type Item = (u64, Id);
+
+/// An opener with what it hands on from call to call. The buffers are new at each call.
+#[derive(Clone)]
+pub struct Opener {
+    pub table: Lent,
+    pub b: usize,
+    pub t: usize,
+    pub session: Session,
+    pub marks: Vec<u8>,
+    pub needed: Vec<Id>,
+}
+
+impl Opener {
+    /// An opening that isn't refused, and its query.
+    pub fn open(table: Lent, b: usize, t: usize) -> (Opener, Vec<u8>) {
+        let mut marks = vec![0xbb; table.times.len()];
+        let mut out = vec![0xcc; 100_000];
+        let sent = reference::open(&table.times, &table.ids, b, t, &mut marks, &[0xdd; 64], &mut out).unwrap();
+        assert_eq!(
+            sent.session,
+            Session {
+                marked: 0,
+                needed: 0,
+                done: false
+            }
+        );
+        assert!(marks.iter().all(|&mark| mark == 0));
+        assert!(out[sent.length..].iter().all(|&byte| byte == 0xcc));
+        out.truncate(sent.length);
+        (
+            Opener {
+                table,
+                b,
+                t,
+                session: sent.session,
+                marks,
+                needed: vec![],
+            },
+            out,
+        )
+    }
+
+    /// A take with room for so many ids and out bytes. Gives the query, empty if done.
+    pub fn take(&mut self, reply: &[u8], ids_room: usize, out_room: usize) -> Result<Vec<u8>, u8> {
+        let mut marks = self.marks.clone();
+        let mut needed = vec![0xdd; 32 * ids_room];
+        needed[..32 * self.needed.len()].copy_from_slice(&self.needed.concat());
+        let before = needed.clone();
+        let mut out = vec![0xcc; out_room];
+        let Lent { times, ids } = &self.table;
+        let (b, t) = (self.b, self.t);
+        match reference::take(times, ids, b, t, reply, self.session, &mut marks, &mut needed, &mut out) {
+            Err(number) => {
+                assert!(
+                    marks == self.marks && needed == before,
+                    "a refused take changed the report"
+                );
+                assert_eq!(out, vec![0xcc; out_room]);
+                Err(number)
+            }
+            Ok(sent) => {
+                self.adopt(sent.session, marks, &needed, &before);
+                assert_eq!(sent.session.done, sent.length == 0);
+                assert!(out[sent.length..].iter().all(|&byte| byte == 0xcc));
+                out.truncate(sent.length);
+                Ok(out)
+            }
+        }
+    }
+
+    /// Takes over what an unrefused take left, after a look at the counts and the bytes behind the list.
+    fn adopt(&mut self, session: Session, marks: Vec<u8>, needed: &[u8], before: &[u8]) {
+        assert_eq!(session.marked, marks.iter().filter(|&&mark| mark == 1).count());
+        assert!(marks.iter().all(|&mark| mark <= 1));
+        let end = 32 * session.needed;
+        assert_eq!(needed[end..], before[end..]);
+        let list: Vec<Id> = needed[..end].chunks(32).map(|id| id.try_into().unwrap()).collect();
+        assert!(list.windows(2).all(|pair| pair[0] < pair[1]));
+        assert!(self.needed.iter().all(|id| list.contains(id)));
+        assert!(self.marks.iter().zip(&marks).all(|(old, new)| old <= new));
+        *self = Opener {
+            session,
+            marks,
+            needed: list,
+            ..self.clone()
+        };
+    }
+}
+
+/// The items of both ends.
+struct Ends {
+    ours: Vec<Item>,
+    theirs: Vec<Item>,
+    their_b: usize,
+    their_t: usize,
+}
+
+fn ids(items: &[Item]) -> BTreeSet<Id> {
+    items.iter().map(|item| item.1).collect()
+}
+
+impl Ends {
+    fn answer(&self, query: &[u8]) -> Vec<u8> {
+        Lent::new(&self.theirs)
+            .answer(self.their_b, self.their_t, query)
+            .unwrap()
+    }
+
+    /// "After every take, each id reported as theirs only or ours only is so."
+    fn check_truth(&self, opener: &Opener) {
+        let (ours, theirs) = (ids(&self.ours), ids(&self.theirs));
+        assert!(opener.needed.iter().all(|id| theirs.contains(id) && !ours.contains(id)));
+        let mut marked = self.ours.iter().zip(&opener.marks).filter(|(_, &mark)| mark == 1);
+        assert!(marked.all(|(item, _)| !theirs.contains(&item.1)));
+    }
+
+    /// "Whenever the session says done, every id that only one end has is reported", save the excused.
+    fn check_complete(&self, opener: &Opener, excused: &BTreeSet<Id>) {
+        let (ours, theirs) = (ids(&self.ours), ids(&self.theirs));
+        for id in theirs.difference(&ours).filter(|id| !excused.contains(*id)) {
+            assert!(opener.needed.contains(id), "not needed: {id:?}");
+        }
+        for ((_, id), &mark) in self.ours.iter().zip(&opener.marks) {
+            assert!(
+                theirs.contains(id) || excused.contains(id) || mark == 1,
+                "not marked: {id:?}"
+            );
+        }
+    }
+
+    /// The ids in the ranges of a message that have a fingerprint, different items and equal fingerprints.
+    fn colliding(&self, message: &[u8]) -> BTreeSet<Id> {
+        let mut colliding = BTreeSet::new();
+        let mut lower = Bound::At {
+            time: 0,
+            prefix: vec![],
+        };
+        for range in read(message).unwrap() {
+            let ours = between(&self.ours, &lower, &range.upper);
+            let theirs = between(&self.theirs, &lower, &range.upper);
+            if matches!(range.payload, Payload::Fingerprint(_)) && ours != theirs {
+                let (from, to) = (given(&lower), given(&range.upper));
+                let own = Lent::new(&self.ours).fingerprint(&from, &to);
+                if own == Lent::new(&self.theirs).fingerprint(&from, &to) {
+                    colliding.extend(ours.iter().chain(&theirs).map(|item| item.1));
+                }
+            }
+            lower = range.upper;
+        }
+        colliding
+    }
+}
+
+/// The items at or above the lower bound and below the upper.
+fn between(items: &[Item], lower: &Bound, upper: &Bound) -> Vec<Item> {
+    let bound = |item: &Item| Bound::At {
+        time: item.0,
+        prefix: item.1.to_vec(),
+    };
+    let inside =
+        |item: &&Item| bound(item).compare(lower) != Ordering::Less && bound(item).compare(upper) == Ordering::Less;
+    items.iter().filter(inside).copied().collect()
+}
+
+/// "L is the smallest whole number with t × b^L at least n".
+fn rounds(n: usize, b: usize, t: usize) -> usize {
+    let (mut l, mut reach) = (0, t);
+    while reach < n {
+        reach *= b;
+        l += 1;
+    }
+    l
+}
+
+/// A list of takes after one opening.
+struct Takes {
+    ends: Ends,
+    opener: Opener,
+    sent: Vec<Vec<u8>>,
+    /// Unrefused takes in a row, each handed the answer to the query last sent.
+    row: usize,
+    excused: BTreeSet<Id>,
+    unrefused: usize,
+    refused: [usize; 13],
+}
+
+impl Takes {
+    fn new(ends: Ends, b: usize, t: usize) -> Takes {
+        let (opener, query) = Opener::open(Lent::new(&ends.ours), b, t);
+        let sent = vec![query];
+        Takes {
+            ends,
+            opener,
+            sent,
+            row: 0,
+            excused: BTreeSet::new(),
+            unrefused: 0,
+            refused: [0; 13],
+        }
+    }
+
+    /// An unrefused take of the answer to a query sent before.
+    fn take(&mut self, query: usize) {
+        let query = self.sent[query].clone();
+        let answer = self.ends.answer(&query);
+        let is_last = Some(&query) == self.sent.last();
+        let next = self.opener.take(&answer, self.ends.theirs.len(), 100_000).unwrap();
+        self.excused.extend(self.ends.colliding(&query));
+        self.excused.extend(self.ends.colliding(&answer));
+        self.unrefused += 1;
+        self.row = if is_last { self.row + 1 } else { 0 };
+        self.ends.check_truth(&self.opener);
+        if self.opener.session.done {
+            self.ends.check_complete(&self.opener, &self.excused);
+        } else {
+            self.sent.push(next);
+        }
+        assert!(
+            self.opener.session.done || self.row < self.limit(),
+            "{} takes in a row",
+            self.row
+        );
+    }
+
+    /// L + 1.
+    fn limit(&self) -> usize {
+        rounds(self.ends.ours.len(), self.opener.b, self.opener.t) + 1
+    }
+
+    /// A take that is refused; if the inputs chosen don't make it so, none.
+    fn refused(&mut self, random: &mut Random) {
+        let mut answer = self.ends.answer(&self.sent[random.below(self.sent.len())]);
+        let mut ids_room = self.ends.theirs.len();
+        let mut out_room = 100_000;
+        let mut copy = self.opener.clone();
+        match random.below(4) {
+            0 => answer.push(0x80),
+            1 => {
+                let length = 1 + random.below(40);
+                answer = random.bytes(length);
+                answer[0] = 0x61;
+                if read(&answer).is_ok() {
+                    return;
+                }
+            }
+            2 => match copy.take(&answer, ids_room, out_room).unwrap().len() {
+                0 => return,
+                length => out_room = random.below(length),
+            },
+            _ => {
+                copy.take(&answer, ids_room, out_room).unwrap();
+                if copy.needed.len() == self.opener.needed.len() {
+                    return;
+                }
+                ids_room = copy.needed.len() - 1;
+            }
+        }
+        let number = self.opener.take(&answer, ids_room, out_room).unwrap_err();
+        self.refused[number as usize] += 1;
+        self.ends.check_truth(&self.opener);
+    }
+
+    /// Late, repeated and refused takes at random, then those of the query last sent until done.
+    fn run(&mut self, random: &mut Random) {
+        for _ in 0..random.below(20) {
+            if self.opener.session.done {
+                break;
+            }
+            match random.below(5) {
+                0 => self.refused(random),
+                1 | 2 => self.take(random.below(self.sent.len())),
+                _ => self.take(self.sent.len() - 1),
+            }
+        }
+        while !self.opener.session.done {
+            self.take(self.sent.len() - 1);
+        }
+        assert_eq!(self.opener.take(&[0x61], self.ends.theirs.len(), 0), Err(5));
+        self.ends.check_complete(&self.opener, &self.excused);
+    }
+}
+
+/// Two tables in which no id stands under two times. Small ids make equal sums of different ids likely.
+fn random_ends(random: &mut Random, small_ids: bool) -> Ends {
+    let size = random.below(if small_ids { 16 } else { 80 });
+    let times = 1 + random.below(if small_ids { 2 } else { 6 });
+    let mut pool: Vec<Item> = Vec::new();
+    for _ in 0..size {
+        let time = if random.one_in(20) {
+            u64::MAX - 1
+        } else {
+            random.below(times) as u64
+        };
+        let mut item = (time, id(random.below(12) as u8));
+        if !small_ids {
+            // Many ids share their first bytes.
+            let same = [0, 0, 1, 7, 31][random.below(5)];
+            random.fill(&mut item.1[same..]);
+        }
+        if pool.iter().all(|other| other.1 != item.1) {
+            pool.push(item);
+        }
+    }
+    pool.sort_unstable();
+    let only_one = 1 + random.below(if small_ids { 2 } else { 10 });
+    let mut ends = Ends {
+        ours: vec![],
+        theirs: vec![],
+        their_b: 2 + random.below(3),
+        their_t: 0,
+    };
+    ends.their_t = ends.their_b + random.below(4);
+    for item in pool {
+        let side = if random.one_in(only_one) { random.below(2) } else { 2 };
+        if side != 1 {
+            ends.ours.push(item);
+        }
+        if side != 0 {
+            ends.theirs.push(item);
+        }
+    }
+    ends
+}
+
+#[test]
+fn random_sessions() {
+    let mut refused = [0; 13];
+    let mut longest = 0;
+    for seed in 0..1500 {
+        let _seed = Seed(seed);
+        let mut random = Random(seed);
+        let ends = random_ends(&mut random, false);
+        let b = 2 + random.below(3);
+        let t = b + random.below(4);
+        let mut session = Takes::new(ends, b, t);
+        session.run(&mut random);
+        assert!(session.excused.is_empty());
+        longest = longest.max(session.unrefused);
+        refused
+            .iter_mut()
+            .zip(session.refused)
+            .for_each(|(sum, count)| *sum += count);
+    }
+    assert!(longest > 6, "{longest}");
+    assert!(
+        [7, 8, 9, 10, 11, 12].iter().all(|&number| refused[number] > 0),
+        "{refused:?}"
+    );
+}
+
+/// Small ids: with colliding ranges excused the report is complete, and some ranges do collide.
+#[test]
+fn random_sessions_with_collisions() {
+    let mut collided = 0;
+    for seed in 0..3000 {
+        let _seed = Seed(seed);
+        let mut random = Random(seed);
+        let ends = random_ends(&mut random, true);
+        let mut session = Takes::new(ends, 2, 2);
+        session.run(&mut random);
+        collided += usize::from(!session.excused.is_empty());
+    }
+    assert!(collided > 10, "{collided}");
+}
+
+/// Ids 1 and 4 against 2 and 3 have equal sums and counts: done at once, nothing reported.
+#[test]
+fn colliding_ranges_hide() {
+    let ours = vec![(5, id(1)), (5, id(4)), (8, id(9))];
+    let theirs = vec![(5, id(2)), (5, id(3)), (8, id(9))];
+    let mut session = Takes::new(
+        Ends {
+            ours,
+            theirs,
+            their_b: 2,
+            their_t: 2,
+        },
+        2,
+        2,
+    );
+    session.take(0);
+    assert_eq!(
+        session.opener.session,
+        Session {
+            marked: 0,
+            needed: 0,
+            done: true
+        }
+    );
+    assert_eq!(session.excused, [id(1), id(2), id(3), id(4)].into_iter().collect());
+}
+
+/// Five items with b = t = 2 can need three takes.
+#[test]
+fn d1_three_takes() {
+    assert_eq!(
+        [0, 1, 2, 3, 4, 5, 8, 9].map(|n| rounds(n, 2, 2)),
+        [0, 0, 0, 1, 1, 2, 2, 3]
+    );
+    let ours: Vec<Item> = (1..6).map(|i| (100 * i, id(i as u8))).collect();
+    let below = (1..90).map(|time| (time, id(100 + time as u8)));
+    let theirs = below.chain(ours.iter().copied()).collect();
+    let mut session = Takes::new(
+        Ends {
+            ours,
+            theirs,
+            their_b: 2,
+            their_t: 2,
+        },
+        2,
+        2,
+    );
+    for takes in 1..4 {
+        session.take(takes - 1);
+        assert_eq!(session.opener.session.done, takes == 3);
+    }
+    assert_eq!(
+        session.opener.session,
+        Session {
+            marked: 0,
+            needed: 89,
+            done: true
+        }
+    );
+}

@@ -83,6 +83,7 @@ fn wrong_state() -> Vec<Trial> {
         trial("sessions", marks, "take clears the marks set earlier", take(clear_marks)),
         trial("sessions", needed, "take swaps two needed ids", take(swap_needed)),
         trial("sessions", needed, "take changes the last needed id", take(change_needed)),
+        trial("lists", needed, "take changes the needed id number 16,385", take(change_far_needed)),
         trial("sessions", needed, "take changes a needed byte behind the list",
             take(|made, sent| flip(made.lent.needed, 32 * sent.session.needed))),
         trial("tables", marks, "open leaves the last mark", open(leave_mark)),
@@ -104,6 +105,12 @@ fn swap_needed(made: &mut Made<'_, '_>, sent: &mut Sent) {
 fn change_needed(made: &mut Made<'_, '_>, sent: &mut Sent) {
     if sent.session.needed > 0 {
         flip(made.lent.needed, 32 * sent.session.needed - 1);
+    }
+}
+
+fn change_far_needed(made: &mut Made<'_, '_>, sent: &mut Sent) {
+    if sent.session.needed > 16_384 {
+        flip(made.lent.needed, 32 * 16_384);
     }
 }
 

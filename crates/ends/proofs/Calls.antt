@@ -19,8 +19,8 @@ use Rattle.ends.specs.Lists.{overwrite}
 use Rattle.ends.specs.Calls.{result, onceRead, reading}
 use Rattle.ends.specs.Responder.{reply, answered}
 use Rattle.ends.specs.Opener.{Lent, ones, neededIds, capacity, wrongBuffers, wrongContents, firstQuery, begin, opened, nextQuery, skipsOnly, written, marksAfter, neededAfter, conclude, taken}
-use Rattle.ends.specs.Demand.{Take, Place}
 use Rattle.ends.proofs.Lists.{overwrite-front}
+use Rattle.ends.proofs.Relations.{leaves}
 
 -- ---- one check after another
 
@@ -76,6 +76,10 @@ pub record Answered (T : Table) (c : Cut) (query out : List ℕ) (n : ℕ) : Typ
   pub says : readMessage query ≡ read ranges rest
   pub wrote : take n (answered T c query out .lent) ≡ writeMessage (reply c (items T) ranges)
 
+pub answer-checks : (T : Table) (c : Cut) (query out : List ℕ) (n : ℕ) → answered T c query out .answer ≡ answer n → Checked T c
+unfolding answered
+answer-checks T c query out n e = checked T c _ (unrefused-result out _ n e) .0
+
 pub unrefused-answer : (T : Table) (c : Cut) (query out : List ℕ) (n : ℕ) → answered T c query out .answer ≡ answer n → Answered T c query out n
 unfolding answered
 unrefused-answer T c query out n e =
@@ -111,30 +115,13 @@ unrefused-opening T c l n e =
 
 -- ---- Take
 
--- what the take t at the place p is lent
-abbrev pub lentAt : Place → Take → Lent
-lentAt p t = record { session = p .session; marks = p .marks; needed = p .needed ++ t .behind; out = t .out }
-
--- what an unrefused take leaves that read the reply rs
-abbrev pub takeLeaves : Table → Cut → List Range → Lent → Lent
-takeLeaves T c rs l =
-    let query = nextQuery c (items T) rs in
-    let marks = marksAfter (items T) rs (l .marks) in
-    let needed = neededAfter (items T) rs (neededIds l) in
-    record {
-      session = record { marked = ones marks; needed = length needed; done = skipsOnly query };
-      marks = marks;
-      needed = overwrite (flatten needed) (l .needed);
-      out = overwrite (written query) (l .out);
-    }
-
 pub record Taken (T : Table) (c : Cut) (m : List ℕ) (l : Lent) (n : ℕ) : Type 0 where
   pub going : l .session .done ≡ false
   pub ranges : List Range
   pub rest : List ℕ
   pub says : readMessage m ≡ read ranges rest
   pub size : length (written (nextQuery c (items T) ranges)) ≡ n
-  pub left : taken T c m l .lent ≡ takeLeaves T c ranges l
+  pub left : taken T c m l .lent ≡ leaves T ranges (written (nextQuery c (items T) ranges)) (skipsOnly (nextQuery c (items T) ranges)) l
 
 pub unrefused-take : (T : Table) (c : Cut) (m : List ℕ) (l : Lent) (n : ℕ) → taken T c m l .answer ≡ answer n → Taken T c m l n
 unfolding taken conclude

@@ -1,18 +1,28 @@
 -- Lists       membership by numbers, and ids in a buffer
 -- Tables      what checks 1 to 3 leave of a table and a cut
 -- Ranges, Messages, Projection   what the two ends write can be carried by a message, and is what the theory's ends send
+-- Relations   what the theorem asks of an opening, of a reply and of an unrefused take: `Begun`, `Replied`, `Took`
 -- Reports     marks and needed ids are those of the theory
 -- Calls       what an unrefused call went through, and what a refused take leaves
 -- Simulation  a place and the theory's session that agrees with it: at the opening, after a refused take, after an unrefused one
 -- Owed        what the theory claims of a session is so of the place
--- Demand      the theorem, `demand3`
+-- Takes       the theorem about lists of takes that differ in kind: `reported`, `owed-at`
+-- Own         the calls of the two ends meet the relations
+-- Demand      the theorem for takes that are all alike, `demand3`
+-- Finished    what finished sessions report, `whoever-opens`
+-- Replies     lawful replies of any kind, `true-and-complete`
 pub mod Lists
 pub mod Tables
 pub mod Ranges
 pub mod Messages
 pub mod Projection
+pub mod Relations
 pub mod Reports
 pub mod Calls
 pub mod Simulation
 pub mod Owed
+pub mod Takes
+pub mod Own
 pub mod Demand
+pub mod Finished
+pub mod Replies

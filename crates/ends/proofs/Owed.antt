@@ -15,7 +15,6 @@ use Rattle.theory.specs.Table.{has, between}
 use Rattle.theory.specs.Message as T
 use Rattle.theory.specs.Message.{Stands, here, there}
 use Rattle.theory.specs.Protocol as theory
-use Rattle.theory.specs.Rounds.{Cut}
 use Rattle.theory.specs.Run.{Session}
 use Rattle.theory.specs.Demand as claim
 use Rattle.theory.proofs.Tests.{byTest, clash}
@@ -23,16 +22,16 @@ use Rattle.theory.proofs.Messages.{fingerprint≢skip, fingerprint≢ids}
 use Rattle.table.specs.Table.{Item, keyOf, Table, items, within, idsOf}
 use Rattle.cutting.specs.Cutting.{fingerprintOf}
 use Rattle.cutting.proofs.Numbers.{Whole, key-id}
-use Rattle.cutting.proofs.Projection.{ids-back, protocol, payload, project, within-keys, fingerprint-within}
-use Rattle.ends.specs.Lists.{same}
+use Rattle.cutting.proofs.Projection.{ids-back, items-back, protocol, payload, project, within-keys, within-whole}
 use Rattle.ends.specs.Calls.{eachRange}
-use Rattle.ends.specs.Demand.{Place, Only, ReportsTheirs, ReportsOurs, Fingerprinted, Compared, Colliding, OneTime}
-use Rattle.ends.proofs.Tables.{Kept}
+use Rattle.ends.specs.Demand.{Place, Only, ReportsTheirs, ReportsOurs, Fingerprinted, Compared, Colliding, Reported, OneTime}
+use Rattle.ends.proofs.Tables.{Held, keysOf}
 use Rattle.ends.proofs.Ranges.{key-start}
 use Rattle.ends.proofs.Messages.{ids-whole}
 use Rattle.ends.proofs.Reports.{bit, numbers, marksOf, number-alone}
 use Rattle.ends.proofs.Lists.{all-mem, paired-back, mem-has, has-mem, ids-flatten}
-use Rattle.ends.proofs.Simulation.{Means, means-reads, Agrees}
+use Rattle.ends.proofs.Relations.{Means, means-reads}
+use Rattle.ends.proofs.Simulation.{Agrees}
 
 -- ---- ids and their numbers
 
@@ -51,10 +50,7 @@ same-key i j t d = rw (t, d)
 
 -- ---- tables
 
-abbrev pub keysOf : Table → List ℕ
-keysOf T = map keyOf (items T)
-
-module _ (T : Table) (c : Cut) (k : Kept T c) where
+module _ (T : Table) (k : Held T) where
   table-ids : theory.idsOf protocol (keysOf T) ≡ numbers (idsOf (items T))
   unfolding protocol
   table-ids = ids-back (items T) (k .whole)
@@ -66,19 +62,18 @@ module _ (T : Table) (c : Cut) (k : Kept T c) where
   id-mem d h e = number-mem d (idsOf (items T)) h (ids-whole (items T) (k .whole)) (rw table-ids at e)
 
   table-fingerprint : (x y : Bound) → theory.fingerprintIn protocol (keysOf T) (key x) (key y) ≡ fingerprintOf (within x y (items T))
-  table-fingerprint x y =
-      let some : 0 < c .parts = let z = k .parts in omega arith in
-      fingerprint-within same (keysOf T) c (items T) refl (k .whole) (k .rises) some (k .listed) x y
+  unfolding protocol
+  table-fingerprint x y = rw (← within-keys x y (items T), items-back (within x y (items T)) (within-whole x y (items T) (k .whole))) refl
 
-module _ (X Y : Table) (x y : Cut) (kX : Kept X x) (kY : Kept Y y) where
-  only-bytes : (d : List ℕ) → Sized 32 d → claim.Only protocol (keysOf X) (keysOf Y) (bigEndian 32 d) → Only X Y x y X Y d
-  only-bytes d h o = (id-mem X x kX d h (o .has-it), λ m. clash (has-id Y y kY d m) (o .has-not))
+module _ (X Y : Table) (kX : Held X) (kY : Held Y) where
+  only-bytes : (d : List ℕ) → Sized 32 d → claim.Only protocol (keysOf X) (keysOf Y) (bigEndian 32 d) → Only X Y d
+  only-bytes d h o = (id-mem X kX d h (o .has-it), λ m. clash (has-id Y kY d m) (o .has-not))
 
-  only-keys : (i : Item) → Whole i → Only X Y x y X Y (i .id) → claim.Only protocol (keysOf X) (keysOf Y) (protocol .idOf (keyOf i))
+  only-keys : (i : Item) → Whole i → Only X Y (i .id) → claim.Only protocol (keysOf X) (keysOf Y) (protocol .idOf (keyOf i))
   only-keys i h o =
       rw (id-number i h) (record {
-        has-it = has-id X x kX (i .id) (o .0);
-        has-not = byTest (has (bigEndian 32 (i .id)) (theory.idsOf protocol (keysOf Y))) (λ e. absurd (o .1 (id-mem Y y kY (i .id) h e))) (λ e. e);
+        has-it = has-id X kX (i .id) (o .0);
+        has-not = byTest (has (bigEndian 32 (i .id)) (theory.idsOf protocol (keysOf Y))) (λ e. absurd (o .1 (id-mem Y kY (i .id) h e))) (λ e. e);
       })
 
 -- ---- marks
@@ -139,7 +134,7 @@ stands-bounds l (range u (M.fingerprint g) ∷ rs) {f = f} st =
     (λ e. let z : g ≡ f = cc (e .2) in record { lower = l; upper = u; low = e .0; high = e .1; holds = List·Memᴰ·head (rw z) })
     (λ z. further l u (M.fingerprint g) rs (stands-bounds u rs z)) (stands-cases st)
 
-module _ (A B : Table) (a b : Cut) (kA : Kept A a) (kB : Kept B b) where
+module _ (A B : Table) (kA : Held A) (kB : Held B) where
   -- ---- the two tables together
 
   pub one-time : OneTime (items A ++ items B) → theory.OneTime protocol (keysOf A) (keysOf B)
@@ -156,7 +151,7 @@ module _ (A B : Table) (a b : Cut) (kA : Kept A a) (kB : Kept B b) where
   module _ (x y : Bound) {lower upper : ℕ} (low : key x ≡ lower) (high : key y ≡ upper) where
     fingerprints-equal : theory.fingerprintIn protocol (keysOf A) lower upper ≡ theory.fingerprintIn protocol (keysOf B) lower upper
         → fingerprintOf (within x y (items A)) ≡ fingerprintOf (within x y (items B))
-    fingerprints-equal e = sym (table-fingerprint A a kA x y) ∙ rw (low, high) e ∙ table-fingerprint B b kB x y
+    fingerprints-equal e = sym (table-fingerprint A kA x y) ∙ rw (low, high) e ∙ table-fingerprint B kB x y
 
     items-equal : within x y (items A) ≡ within x y (items B) → between (keysOf A) lower upper ≡ between (keysOf B) lower upper
     items-equal e = rw (← low, ← high) (sym (within-keys x y (items A)) ∙ ap (map keyOf) e ∙ within-keys x y (items B))
@@ -167,28 +162,28 @@ module _ (A B : Table) (a b : Cut) (kA : Kept A a) (kB : Kept B b) where
 
     -- ---- the reports are true
 
-    pub theirs-so : claim.Sound protocol (keysOf A) (keysOf B) s → (d : List ℕ) → ReportsTheirs A B a b p d → Only A B a b B A d
+    theirs-so : claim.Sound protocol (keysOf A) (keysOf B) s → (d : List ℕ) → ReportsTheirs p d → Only B A d
     theirs-so sound d m =
         let m′ : List·Memᴰ d (g .ids) = rw needed-ids at m in
-        only-bytes B A b a kB kA d (all-mem (Sized 32) (g .sized) m′)
+        only-bytes B A kB kA d (all-mem (Sized 32) (g .sized) m′)
         (sound .theirs (bigEndian 32 d) (sym (g .needed (bigEndian 32 d)) ∙ mem-has (bigEndian 32) m′))
 
-    pub ours-so : claim.Sound protocol (keysOf A) (keysOf B) s → (d : List ℕ) → ReportsOurs A B a b p d → Only A B a b A B d
+    ours-so : claim.Sound protocol (keysOf A) (keysOf B) s → (d : List ℕ) → ReportsOurs A p d → Only A B d
     ours-so sound d o =
         let w = marked-item (s .marked) (items A) (o .index) (let z = o .own in omega (arith, kA .size)) (rw (g .marks) at (o .mark)) in
         let i = w .0 in
         let h = all-mem Whole (kA .whole) (w .1) in
         let is : d ≡ i .id = sym (o .its) ∙ w .2 in
-        rw is (only-bytes A B a b kA kB (i .id) h (rw (id-number i h) at (sound .ours (keyOf i) (w .3) .1)))
+        rw is (only-bytes A B kA kB (i .id) h (rw (id-number i h) at (sound .ours (keyOf i) (w .3) .1)))
 
     -- ---- colliding ranges
 
-    fingerprinted : {m : List ℕ} {N : T.Message (List ℕ)} {x y : ℕ} {f : List ℕ} → Means m N → Stands 0 N x y (T.fingerprint f) → Bounds x y (Fingerprinted A B a b m)
+    fingerprinted : {m : List ℕ} {N : T.Message (List ℕ)} {x y : ℕ} {f : List ℕ} → Means m N → Stands 0 N x y (T.fingerprint f) → Bounds x y (Fingerprinted m)
     fingerprinted {x = x} {y = y} {f = f} w st =
         let st′ : Stands (key start) (project (w .ranges)) x y (T.fingerprint f) = rw (key-start, ← w .projected) st in
         bounds-map (λ lower upper m. record { ranges = w .ranges; bytes = f; says = means-reads w; stands = m }) (stands-bounds start (w .ranges) st′)
 
-    compared : {x y : ℕ} → claim.Compared s x y → Bounds x y (Compared A B a b p)
+    compared : {x y : ℕ} → claim.Compared s x y → Bounds x y (Compared p)
     compared c =
         let w = paired-back (g .handed) (c .handed) in
         ⊎-elim
@@ -196,7 +191,7 @@ module _ (A B : Table) (a b : Cut) (kA : Kept A a) (kB : Kept B b) where
         (λ st. bounds-map (λ lower upper z. record { query = w .0 .0; reply = w .0 .1; handed = w .1; stands = inr z }) (fingerprinted (w .2 .1) st))
         (c .stands)
 
-    collides : (i : Item) → claim.Colliding protocol (keysOf A) (keysOf B) s (keyOf i) → Colliding A B a b p i
+    collides : (i : Item) → claim.Colliding protocol (keysOf A) (keysOf B) s (keyOf i) → Colliding A B p i
     collides i c =
         let w = compared (c .compared) in
         record {
@@ -211,20 +206,30 @@ module _ (A B : Table) (a b : Cut) (kA : Kept A a) (kB : Kept B b) where
 
     -- ---- the reports are complete
 
-    pub theirs-all : claim.Complete protocol (keysOf A) (keysOf B) s → (i : Item) → List·Memᴰ i (items B) → Only A B a b B A (i .id)
-        → ReportsTheirs A B a b p (i .id) ⊎ Colliding A B a b p i
+    theirs-all : claim.Complete protocol (keysOf A) (keysOf B) s → (i : Item) → List·Memᴰ i (items B) → Only B A (i .id)
+        → ReportsTheirs p (i .id) ⊎ Colliding A B p i
     theirs-all complete i m o =
         let h = all-mem Whole (kB .whole) m in
         ⊎-elim
         (λ e. inl (rw needed-ids (number-mem (i .id) (g .ids) h (g .sized) (g .needed (bigEndian 32 (i .id)) ∙ rw (id-number i h) at e))))
         (λ c. inr (collides i c))
-        (complete .theirs (keyOf i) (mem-has keyOf m) (only-keys B A b a kB kA i h o))
+        (complete .theirs (keyOf i) (mem-has keyOf m) (only-keys B A kB kA i h o))
 
-    pub ours-all : claim.Complete protocol (keysOf A) (keysOf B) s → (i : Item) → List·Memᴰ i (items A) → Only A B a b A B (i .id)
-        → ReportsOurs A B a b p (i .id) ⊎ Colliding A B a b p i
+    ours-all : claim.Complete protocol (keysOf A) (keysOf B) s → (i : Item) → List·Memᴰ i (items A) → Only A B (i .id)
+        → ReportsOurs A p (i .id) ⊎ Colliding A B p i
     ours-all complete i m o =
         ⊎-elim
         (λ e. let w = item-mark (s .marked) (items A) i m e in
         inl (record { index = w .0; own = let z = w .1 in omega (arith, kA .size); its = w .2; mark = rw (g .marks) (w .3) }))
         (λ c. inr (collides i c))
-        (complete .ours (keyOf i) (mem-has keyOf m) (only-keys A B a b kA kB i (all-mem Whole (kA .whole) m) o))
+        (complete .ours (keyOf i) (mem-has keyOf m) (only-keys A B kA kB i (all-mem Whole (kA .whole) m) o))
+
+    -- ---- together
+
+    pub reported : claim.Sound protocol (keysOf A) (keysOf B) s → (s .done ≡ true → claim.Complete protocol (keysOf A) (keysOf B) s) → Reported A B p
+    reported sound complete = record {
+      theirs-so = theirs-so sound;
+      ours-so = ours-so sound;
+      theirs-all = λ e. theirs-all (complete (sym (g .done) ∙ e));
+      ours-all = λ e. ours-all (complete (sym (g .done) ∙ e));
+    }

@@ -1,59 +1,35 @@
 -- A take on the bytes is a take of the theory: a place and the theory's session agree at the opening, after a refused take and after an unrefused one.
-use Prim.Native.Nat.{ℕ, zero, suc, _*_, _<_}
+use Prim.Native.Nat.{ℕ, zero, suc, _*_}
 use mathlib.Core.Path.{_≡_, refl, sym, ap, _∙_}
-use mathlib.Core.Bool.{false, not, _||_}
-use mathlib.Core.List.{List, [], _∷_, _++_, flatten, Forall₂, Forall₂·nil, Forall₂·cons}
+use mathlib.Core.Bool.{false, cond, _||_}
+use mathlib.Core.List.{List, [], _∷_, _++_, flatten, List·Memᴰ, Forall₂, Forall₂·nil, Forall₂·cons}
 use native.Mathlib.Omega.{arith}
-use lib.ListN.{length, getD, take, replicate}
+use lib.ListN.{length, take, replicate}
 use lib.Seq.{take-at}
-use borrow.Author.Tests.{lt-ltb}
-use Rattle.message.specs.Reader.{Outcome, read}
-use Rattle.message.specs.Bound.{start}
-use Rattle.message.specs.Message.{Range, readMessage, spellMessage}
-use Rattle.message.specs.Meaning.{tidy, writeMessage}
-use Rattle.message.specs.WellFormed.{All, Sized, WellFormed}
-use Rattle.message.proofs.Messages.{message-there}
-use Rattle.message.proofs.Meaning.{tidy-rises}
+use Rattle.message.specs.Message.{Range, spellMessage}
+use Rattle.message.specs.WellFormed.{All, Sized}
 use Rattle.theory.specs.Table.{has}
 use Rattle.theory.specs.Message.{Message}
 use Rattle.theory.specs.Message as T
+use Rattle.theory.specs.Lawful.{LawfulReply}
 use Rattle.theory.specs.Rounds.{Cut}
 use Rattle.theory.specs.Run as theory
 use Rattle.theory.specs.Ends as ends
-use Rattle.theory.specs.Exchange.{reply, takes, step}
-use Rattle.theory.proofs.Tests.{byTest, and-intro}
+use Rattle.theory.proofs.Tests.{byTest}
+use Rattle.theory.proofs.Ends.{take-reports}
 use Rattle.table.specs.Answer.{answer, refused}
 use Rattle.table.specs.Table.{Item, Table, items}
 use Rattle.cutting.proofs.Projection.{protocol, project}
 use Rattle.ends.specs.Lists.{overwrite}
-use Rattle.ends.specs.Responder as responder
-use Rattle.ends.specs.Opener.{Lent, neededIds, firstQuery, opened, nextQuery, skipsOnly, written, marksAfter, neededAfter}
-use Rattle.ends.specs.Demand.{Take, Place, sends, opening, call, next, Answers}
-use Rattle.ends.proofs.Tables.{Kept, endOf}
-use Rattle.ends.proofs.Messages.{reply-well, query-well, first-well}
-use Rattle.ends.proofs.Projection.{project-skips, reply-projects, query-projects, first-projects}
+use Rattle.ends.specs.Calls.{Result}
+use Rattle.ends.specs.Opener.{Lent, neededIds, skipsOnly, marksAfter, neededAfter}
+use Rattle.ends.specs.Demand.{Take, Place, sends, hands, behindCall}
+use Rattle.ends.specs.Takes.{lentAt}
+use Rattle.ends.proofs.Tables.{Kept, keysOf, endOf}
+use Rattle.ends.proofs.Relations.{Means, Begun, sentOf, leaves, Took}
+use Rattle.ends.proofs.Projection.{skips-only}
 use Rattle.ends.proofs.Reports.{numbers, marksOf, marks-after, needed-after, needed-sized}
 use Rattle.ends.proofs.Lists.{overwrite-front, flatten-length, ids-flatten}
-use Rattle.ends.proofs.Calls.{unrefused-answer, unrefused-opening, lentAt, takeLeaves, unrefused-take, refused-take}
-
--- ---- messages
-
--- the bytes m spell ranges that are M to the theory
-pub record Means (m : List ℕ) (M : Message (List ℕ)) : Type 0 where
-  pub ranges : List Range
-  pub well : WellFormed ranges
-  pub spelled : m ≡ spellMessage ranges
-  pub projected : M ≡ project ranges
-
-pub means-reads : {m : List ℕ} {M : Message (List ℕ)} (w : Means m M) → readMessage m ≡ read (w .ranges) []
-means-reads w = ap readMessage (w .spelled) ∙ message-there (w .ranges) (w .well)
-
-means-ranges : {m : List ℕ} {M : Message (List ℕ)} (w : Means m M) {rs : List Range} {rest : List ℕ} → readMessage m ≡ read rs rest → rs ≡ w .ranges
-means-ranges w {rs} {rest} e = let z : _≡_ {A = Outcome (List Range)} (read rs rest) (read (w .ranges) []) = sym e ∙ means-reads w in cc
-
-written-means : (rs : List Range) {M : Message (List ℕ)} → WellFormed rs → project (tidy rs) ≡ M → Means (writeMessage rs) M
-unfolding writeMessage
-written-means rs h e = record { ranges = tidy rs; well = tidy-rises start rs h; spelled = refl; projected = sym e }
 
 -- ---- a place and a session
 
@@ -74,12 +50,6 @@ pub record Agrees (A : Table) (p : Place) (s : theory.Session (List ℕ)) : Type
   pub sent : Forall₂ Means (p .sent) (s .sent)
   pub handed : Forall₂ MeanBoth (p .handed) (s .handed)
 
--- ---- what is sent
-
-sends-message : (rs : List Range) (out : List ℕ) (n : ℕ) → length (writeMessage rs) ≡ n → sends (answer n) (overwrite (writeMessage rs) out) ≡ writeMessage rs ∷ []
-unfolding writeMessage spellMessage
-sends-message rs out n e = rw (← e) (ap (λ (m : List ℕ). m ∷ []) (overwrite-front (spellMessage (tidy rs)) out (length (spellMessage (tidy rs))) refl))
-
 -- marks that are all 0
 marks-none : (is : List Item) (n : ℕ) → length is ≡ n → replicate n 0 ≡ marksOf (λ k. false) is
 marks-none [] zero e = refl
@@ -87,41 +57,41 @@ marks-none [] (suc n) e = absurd (omega arith)
 marks-none (i ∷ is) zero e = absurd (omega arith)
 marks-none (i ∷ is) (suc n) e = rw (marks-none is n (omega arith))
 
-module _ (A B : Table) (a b : Cut) (kA : Kept A a) (kB : Kept B b) where
+pub sends-message : (rs : List Range) (out : List ℕ) (n : ℕ) → length (spellMessage rs) ≡ n → sends (answer n) (overwrite (spellMessage rs) out) ≡ spellMessage rs ∷ []
+unfolding spellMessage
+sends-message rs out n e = rw (← e) (ap (λ (m : List ℕ). m ∷ []) (overwrite-front (spellMessage rs) out (length (spellMessage rs)) refl))
+
+module _ (A : Table) (a : Cut) (kA : Kept A a) where
   -- ---- the opening
 
-  opening-means : Means (writeMessage (firstQuery a (items A))) (ends.opening protocol (endOf A a))
-  opening-means = written-means (firstQuery a (items A)) (first-well A a kA) (first-projects A a kA)
-
-  pub opening-agrees : (l : Lent) (n : ℕ) → opened A a l .answer ≡ answer n → Agrees A (opening A a l) (theory.opened (ends.opening protocol (endOf A a)))
+  pub begun-agrees : (o : Place) (w : Begun A o) → Agrees A o (theory.opened (project (w .query)))
   unfolding has flatten
-  opening-agrees l n e =
-      let w = unrefused-opening A a l n e in
-      record {
-        ids = [];
-        sized = tt;
-        list = rw (w .left);
-        count = rw (w .left);
-        needed = λ i. refl;
-        marks = rw (w .left) (marks-none (items A) (length (A .times)) (kA .size));
-        done = rw (w .left);
-        sent = rw (e, w .left, sends-message (firstQuery a (items A)) (l .out) n (w .size)) (Forall₂·cons opening-means Forall₂·nil);
-        handed = Forall₂·nil;
-      }
-
-  -- ---- the responder
-
-  answer-means : {m : List ℕ} {Q : Message (List ℕ)} → Means m Q → (r : List ℕ) → Answers A B a b m r → Means r (ends.answer protocol (endOf B b) Q)
-  answer-means {m} {Q} w r z =
-      let x = unrefused-answer B b m (z .out) (z .size) (z .unrefused) in
-      let is : r ≡ writeMessage (responder.reply b (items B) (w .ranges)) =
-      z .written ∙ x .wrote ∙ ap (λ (rs : List Range). writeMessage (responder.reply b (items B) rs)) (means-ranges w (x .says)) in
-      rw is (written-means (responder.reply b (items B) (w .ranges)) (reply-well B b kB (w .ranges) (w .well))
-      (reply-projects B b kB (w .ranges) ∙ ap (ends.answer protocol (endOf B b)) (sym (w .projected))))
+  begun-agrees o w = record {
+    ids = [];
+    sized = tt;
+    list = w .needed;
+    count = w .count;
+    needed = λ i. refl;
+    marks = w .marks ∙ marks-none (items A) (length (A .times)) (kA .size);
+    done = w .going;
+    sent = rw (w .sent) (Forall₂·cons (record { ranges = w .query; well = w .well; spelled = refl; projected = refl }) Forall₂·nil);
+    handed = rw (w .handed) Forall₂·nil;
+  }
 
   -- ---- takes
 
-  module _ (p : Place) (s : theory.Session (List ℕ)) (g : Agrees A p s) (t : Take) where
+  -- the session after a take that was handed the reply R to the query Q and came to the next query N
+  abbrev pub after : theory.Session (List ℕ) → Message (List ℕ) → Message (List ℕ) → Message (List ℕ) → theory.Session (List ℕ)
+  after s Q R N = record {
+    marked = λ k. ends.marks protocol (endOf A a) R k || s .marked k;
+    needed = λ i. ends.needs protocol (endOf A a) R i || s .needed i;
+    done = T.skipsOnly N;
+    sent = cond (T.skipsOnly N) (s .sent) (N ∷ s .sent);
+    handed = (Q, R) ∷ s .handed;
+  }
+
+  -- t is handed over at the place p, and res is what the call answers and leaves
+  module _ (p : Place) (s : theory.Session (List ℕ)) (g : Agrees A p s) (t : Take) (res : Result Lent) where
     ids-handed : neededIds (lentAt p t) ≡ g .ids
     ids-handed = rw (g .count, g .list) (ids-flatten (g .ids) (t .behind) (g .sized))
 
@@ -129,78 +99,73 @@ module _ (A B : Table) (a b : Cut) (kA : Kept A a) (kB : Kept B b) where
     list-kept : (l : Lent) → l ≡ lentAt p t → take (32 * l .session .needed) (l .needed) ≡ flatten (g .ids)
     list-kept l e = rw (e, g .count, g .list) (take-at (flatten (g .ids)) (t .behind) (32 * length (g .ids)) (flatten-length (g .ids) (g .sized)))
 
-    pub refused-agrees : (k : ℕ) → call A B a b p t .answer ≡ refused k → Agrees A (next A B a b p t) s
-    refused-agrees k e =
-        let left = refused-take A a (t .reply) (lentAt p t) k e in
-        record {
-          ids = g .ids;
-          sized = g .sized;
-          list = list-kept (call A B a b p t .lent) left;
-          count = ap (λ (l : Lent). l .session .needed) left ∙ g .count;
-          needed = g .needed;
-          marks = ap (λ (l : Lent). l .marks) left ∙ g .marks;
-          done = ap (λ (l : Lent). l .session .done) left ∙ g .done;
-          sent = rw e (g .sent);
-          handed = rw e (g .handed);
-        }
+    pub refused-agrees : (k : ℕ) → res .answer ≡ refused k → res .lent ≡ lentAt p t → Agrees A (behindCall res (p .sent) (hands (res .answer) t ++ p .handed)) s
+    refused-agrees k e left = record {
+      ids = g .ids;
+      sized = g .sized;
+      list = list-kept (res .lent) left;
+      count = ap (λ (l : Lent). l .session .needed) left ∙ g .count;
+      needed = g .needed;
+      marks = ap (λ (l : Lent). l .marks) left ∙ g .marks;
+      done = ap (λ (l : Lent). l .session .done) left ∙ g .done;
+      sent = rw e (g .sent);
+      handed = rw e (g .handed);
+    }
 
     -- an unrefused take, handed the reply R to the query Q
-    module _ {Q R : Message (List ℕ)} (asked : Means (t .query) Q) (replied : Means (t .reply) R) (n : ℕ) (e : call A B a b p t .answer ≡ answer n) where
+    module _ {Q R : Message (List ℕ)} (asked : Means (t .query) Q) (replied : Means (t .reply) R) (n : ℕ) (e : res .answer ≡ answer n)
+        (w : Took A (replied .ranges) (lentAt p t) n (res .lent)) where
       abbrev r : List Range
       r = replied .ranges
-
-      abbrev query : List Range
-      query = nextQuery a (items A) r
 
       abbrev ids : List (List ℕ)
       ids = neededAfter (items A) r (g .ids)
 
-      size : length (written query) ≡ n
-      size = let w = unrefused-take A a (t .reply) (lentAt p t) n e in rw (means-ranges replied (w .says)) at (w .size)
-
-      left : call A B a b p t .lent ≡ takeLeaves A a r (lentAt p t)
-      left = let w = unrefused-take A a (t .reply) (lentAt p t) n e in rw (means-ranges replied (w .says)) at (w .left)
+      abbrev N : Message (List ℕ)
+      N = project (w .query)
 
       ids-sized : All (Sized 32) ids
       ids-sized = needed-sized A a kA r (replied .well) (g .ids) (g .sized)
 
-      list-left : (l : Lent) → l ≡ takeLeaves A a r (lentAt p t) → take (32 * l .session .needed) (l .needed) ≡ flatten ids
+      list-left : (l : Lent) → l ≡ leaves A r (sentOf (w .query)) (skipsOnly (w .query)) (lentAt p t) → take (32 * l .session .needed) (l .needed) ≡ flatten ids
       list-left l f = rw (f, ids-handed) (overwrite-front (flatten ids) (p .needed ++ t .behind) (32 * length ids) (flatten-length ids ids-sized))
 
-      skips : T.skipsOnly (ends.nextQuery protocol (endOf A a) (project r)) ≡ skipsOnly query
-      skips = ap T.skipsOnly (sym (query-projects A a kA r)) ∙ project-skips query
+      query-means : Means (spellMessage (w .query)) N
+      query-means = record { ranges = w .query; well = w .well; spelled = refl; projected = refl }
 
-      query-means : Means (writeMessage query) (ends.nextQuery protocol (endOf A a) (project r))
-      query-means = written-means query (query-well A a kA r (replied .well)) (query-projects A a kA r)
-
-      sent-left : (out : List ℕ) → out ≡ overwrite (written query) (t .out)
-          → Forall₂ Means (sends (answer n) out ++ p .sent) (ends.afterTake protocol (endOf A a) s Q (project r) .sent)
-      unfolding ends.afterTake written
+      sent-left : (out : List ℕ) → out ≡ overwrite (sentOf (w .query)) (t .out) → Forall₂ Means (sends (answer n) out ++ p .sent) (after s Q (project r) N .sent)
       sent-left out f =
-          byTest (skipsOnly query)
-          (λ z. let none : n ≡ 0 = sym size ∙ rw z refl in rw (skips, z, none) (g .sent))
-          (λ z. let some : length (writeMessage query) ≡ n = rw z at size in
-          rw (skips, z, f, z, sends-message query (t .out) n some) (Forall₂·cons query-means (g .sent)))
+          byTest (skipsOnly (w .query))
+          (λ z. let nothing : n ≡ 0 = sym (w .size) ∙ rw z refl in rw (skips-only (w .query), z, nothing) (g .sent))
+          (λ z. let some : length (spellMessage (w .query)) ≡ n = rw z at (w .size) in
+          rw (skips-only (w .query), z, f, z, sends-message (w .query) (t .out) n some) (Forall₂·cons query-means (g .sent)))
 
-      taken-agrees : Agrees A (next A B a b p t) (ends.afterTake protocol (endOf A a) s Q (project r))
-      unfolding ends.afterTake
+      pub taken-agrees : Agrees A (behindCall res (p .sent) (hands (res .answer) t ++ p .handed)) (after s Q (project r) N)
       taken-agrees = record {
         ids = ids;
         sized = ids-sized;
-        list = list-left (call A B a b p t .lent) left;
-        count = ap (λ (l : Lent). l .session .needed) left ∙ ap (λ (ds : List (List ℕ)). length (neededAfter (items A) r ds)) ids-handed;
+        list = list-left (res .lent) (w .left);
+        count = ap (λ (l : Lent). l .session .needed) (w .left) ∙ ap (λ (ds : List (List ℕ)). length (neededAfter (items A) r ds)) ids-handed;
         needed = λ i. needed-after A a kA r (replied .well) (g .ids) (g .sized) i ∙ ap (λ c. ends.needs protocol (endOf A a) (project r) i || c) (g .needed i);
-        marks = ap (λ (l : Lent). l .marks) left ∙ ap (marksAfter (items A) r) (g .marks) ∙ marks-after A a kA r (replied .well) (s .marked);
-        done = ap (λ (l : Lent). l .session .done) left ∙ sym skips;
-        sent = rw e (sent-left (call A B a b p t .lent .out) (ap (λ (l : Lent). l .out) left));
+        marks = ap (λ (l : Lent). l .marks) (w .left) ∙ ap (marksAfter (items A) r) (g .marks) ∙ marks-after A a kA r (replied .well) (s .marked);
+        done = ap (λ (l : Lent). l .session .done) (w .left) ∙ sym (skips-only (w .query));
+        sent = rw e (sent-left (res .lent .out) (ap (λ (l : Lent). l .out) (w .left)));
         handed = rw e (Forall₂·cons (asked, record { ranges = r; well = replied .well; spelled = replied .spelled; projected = refl }) (g .handed));
       }
 
-    -- It is handed the answer to the i-th query sent, the last being 0.
-    pub take-agrees : (n : ℕ) → call A B a b p t .answer ≡ answer n → (i : ℕ) → i < length (s .sent) → Means (t .query) (getD (s .sent) i [])
-        → Answers A B a b (t .query) (t .reply) → Agrees A (next A B a b p t) (step protocol (endOf A a) (endOf B b) s (reply i))
-    unfolding step takes
-    take-agrees n e i lt asked answers =
-        let replied = answer-means asked (t .reply) answers in
-        let going = sym (g .done) ∙ unrefused-take A a (t .reply) (lentAt p t) n e .going in
-        rw (and-intro (ap not going) (lt-ltb i (length (s .sent)) lt), replied .projected) (taken-agrees asked replied n e)
+      -- it is a take of the theory
+      pub took : (B : Table) → List·Memᴰ Q (s .sent) → LawfulReply protocol (keysOf B) Q (project r)
+          → theory.Take protocol (keysOf A) (keysOf B) s Q (project r) N (after s Q (project r) N)
+      unfolding ends.afterTake
+      took B mem lawful =
+          let reports = take-reports protocol (endOf A a) (project r) s Q in
+          record {
+            going = sym (g .done) ∙ w .going;
+            asked = mem;
+            reply = lawful;
+            next = w .lawful;
+            reports = record { marks = reports .marks; needs = reports .needs };
+            done = refl;
+            sent = refl;
+            handed = refl;
+          }

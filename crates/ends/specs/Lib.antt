@@ -3,9 +3,15 @@
 -- Calls      what a call answers and leaves; ranges with both their bounds
 -- Responder  what either end makes of a range, and Answer
 -- Opener     Open and Take
--- Demand     what holds of every list of takes after one opening
+-- Demand     what holds of every list of takes after one opening, two ends keeping to their tables and cuts: `Demand3`
+-- Takes      lists of takes that differ in kind from each other, and what is owed of them: the words of the one theorem (proofs/Takes.antt)
+-- Finished   two finished sessions, opened from either end: `WhoeverOpens`
+-- Replies    sessions with replies of any kind: `TrueAndComplete`
 pub mod Lists
 pub mod Calls
 pub mod Responder
 pub mod Opener
 pub mod Demand
+pub mod Takes
+pub mod Finished
+pub mod Replies

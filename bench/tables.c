@@ -1,43 +1,48 @@
-/* The check of a table of 1,048,576 items and the label of them all: the proved code against plain C, and the time to read the same
-   memory once. Each time is the least of several turns; the turns alternate, so that a slow moment meets all, and each begins with
-   another of them, since the first finds the memory cold. */
+/* recon_fingerprint on a table of 1,048,576 items, against plain C, and the time to read the same memory once. Between infinity and infinity
+   it is the check of the table, and one hash of the empty label; between time 0 and infinity it is the check, the label of all items, and
+   one hash. Each time is the least of several turns; the turns alternate, so that a slow moment meets all, and each begins with another of
+   them, since the first finds the memory cold. */
 #include <stdio.h>
 #include <stdlib.h>
 #include <string.h>
 #include <time.h>
 
 #include "plain_tables.h"
-
-/* The proved code. A sum is four words, least significant first. */
-uint64_t bench_check_table(const uint64_t *times, size_t n, const uint8_t *ids, size_t id_bytes);
-void bench_label(const uint8_t *ids, size_t id_bytes, uint64_t sum[4], uint64_t *count);
+#include "recon.h"
 
 enum { ITEMS = 1 << 20, ID_BYTES = 32 * ITEMS, TURNS = 15 };
-enum { PROVED, PLAIN, READING, WORDS, WAYS };
+enum { PROVED, PLAIN, WORDS, READING, WAYS };
 
-typedef void way(const uint64_t *times, const uint8_t *ids, uint64_t out[5]);
+typedef struct {
+    const uint64_t *times;
+    const uint8_t *ids;
+    size_t id_bytes;
+} table;
 
-static void check_proved(const uint64_t *times, const uint8_t *ids, uint64_t out[5]) {
-    out[0] = bench_check_table(times, ITEMS, ids, ID_BYTES);
+/* The number of the refusal, or 0 and the fingerprint. */
+typedef struct {
+    uint64_t refusal;
+    uint8_t fingerprint[16];
+} result;
+
+static result proved(table t, bool all) {
+    const uint8_t no_prefix[1] = {0};
+    result r = {0, {0}};
+    r.refusal = recon_fingerprint(t.times, ITEMS, t.ids, t.id_bytes, !all, 0, no_prefix, 0, true, 0, no_prefix, 0, r.fingerprint);
+    return r;
 }
 
-static void check_plain(const uint64_t *times, const uint8_t *ids, uint64_t out[5]) {
-    out[0] = plain_check_table(times, ITEMS, ids, ID_BYTES);
+/* Plain C knows which items the range has, and does not search for them. */
+static result after_check(uint64_t refusal, table t, bool all) {
+    result r = {refusal, {0}};
+    if (refusal == 0)
+        plain_fingerprint(t.ids, all ? t.id_bytes : 0, r.fingerprint);
+    return r;
 }
 
-static void check_words(const uint64_t *times, const uint8_t *ids, uint64_t out[5]) {
-    out[0] = plain_check_table_words(times, ITEMS, ids, ID_BYTES);
-}
+static result plain(table t, bool all) { return after_check(plain_check_table(t.times, ITEMS, t.ids, t.id_bytes), t, all); }
 
-static void label_proved(const uint64_t *times, const uint8_t *ids, uint64_t out[5]) {
-    (void)times;
-    bench_label(ids, ID_BYTES, out, out + 4);
-}
-
-static void label_plain(const uint64_t *times, const uint8_t *ids, uint64_t out[5]) {
-    (void)times;
-    plain_label(ids, ID_BYTES, out, out + 4);
-}
+static result words(table t, bool all) { return after_check(plain_check_table_words(t.times, ITEMS, t.ids, t.id_bytes), t, all); }
 
 static uint64_t load(const uint8_t *p) {
     uint64_t x;
@@ -58,18 +63,12 @@ static uint64_t sum_words(const void *memory, size_t bytes) {
     return a + b + c + d;
 }
 
-static void read_times(const uint64_t *times, const uint8_t *ids, uint64_t out[5]) {
-    (void)ids;
-    out[0] = sum_words(times, 8 * ITEMS);
-}
-
-static void read_ids(const uint64_t *times, const uint8_t *ids, uint64_t out[5]) {
-    (void)times;
-    out[0] = sum_words(ids, ID_BYTES);
-}
-
-static void read_both(const uint64_t *times, const uint8_t *ids, uint64_t out[5]) {
-    out[0] = sum_words(times, 8 * ITEMS) + sum_words(ids, ID_BYTES);
+/* Reads the times, and the ids where they are needed. */
+static result reading(table t, bool ids_too) {
+    result r = {sum_words(t.times, 8 * ITEMS), {0}};
+    if (ids_too)
+        r.refusal += sum_words(t.ids, ID_BYTES);
+    return r;
 }
 
 static double seconds(void) {
@@ -85,36 +84,37 @@ static void must(int holds) {
     }
 }
 
-/* Runs each way in turn and prints the row of least times. The way by words may be missing. */
-static void measure(const char *name, way *const ways[WAYS], const uint64_t *times, const uint8_t *ids) {
-    int count = ways[WORDS] ? WAYS : WORDS;
+static int same(result a, result b) { return a.refusal == b.refusal && memcmp(a.fingerprint, b.fingerprint, 16) == 0; }
+
+typedef result way(table t, bool all);
+
+/* Runs each way in turn and prints the row of least times. */
+static void measure(const char *name, table t, bool all, bool ids_too) {
+    way *const ways[WAYS] = {proved, plain, words, reading};
     double best[WAYS] = {1e9, 1e9, 1e9, 1e9};
-    uint64_t out[WAYS][5] = {{0}};
+    result results[WAYS];
     for (int turn = 0; turn < TURNS; turn++) {
-        for (int i = 0; i < count; i++) {
-            int which = (turn + i) % count;
+        for (int i = 0; i < WAYS; i++) {
+            int which = (turn + i) % WAYS;
             double start = seconds();
-            ways[which](times, ids, out[which]);
+            results[which] = ways[which](t, which == READING ? ids_too : all);
             double took = seconds() - start;
             if (took < best[which])
                 best[which] = took;
         }
-        must(memcmp(out[PROVED], out[PLAIN], sizeof out[PROVED]) == 0);
-        must(count == WORDS || memcmp(out[PROVED], out[WORDS], sizeof out[PROVED]) == 0);
+        must(results[PROVED].refusal == 0);
+        must(same(results[PROVED], results[PLAIN]) && same(results[PROVED], results[WORDS]));
     }
-    printf("| %s | %.2f ms | %.2f ms | ", name, 1e3 * best[PROVED], 1e3 * best[PLAIN]);
-    if (count == WAYS)
-        printf("%.2f ms | %.2f | %.2f", 1e3 * best[WORDS], best[PROVED] / best[PLAIN], best[PROVED] / best[WORDS]);
-    else
-        printf("- | %.2f | -", best[PROVED] / best[PLAIN]);
-    printf(" | %.2f ms |\n", 1e3 * best[READING]);
+    printf("| %s ", name);
+    for (int which = 0; which < WAYS; which++)
+        printf("| %.2f ms ", 1e3 * best[which]);
+    printf("| %.2f | %.2f | %.2f |\n", best[PROVED] / best[PLAIN], best[PROVED] / best[WORDS], best[PROVED] / best[READING]);
 }
 
-/* All three checks must give this number. */
-static void must_give(uint64_t number, const uint64_t *times, const uint8_t *ids, size_t id_bytes) {
-    must(bench_check_table(times, ITEMS, ids, id_bytes) == number);
-    must(plain_check_table(times, ITEMS, ids, id_bytes) == number);
-    must(plain_check_table_words(times, ITEMS, ids, id_bytes) == number);
+/* All three must refuse by this number, or by none if it is 0, and give the same fingerprint. */
+static void must_give(uint64_t refusal, table t) {
+    must(proved(t, true).refusal == refusal);
+    must(same(proved(t, true), plain(t, true)) && same(proved(t, true), words(t, true)));
 }
 
 /* Lays down a number, most significant byte first. */
@@ -140,26 +140,25 @@ int main(void) {
         different[i] = 1700000000 + 1000 * i + x % 1000;
         equal[i] = 1700000000;
     }
-    must_give(0, different, ids, ID_BYTES);
-    must_give(0, equal, ids, ID_BYTES);
-    must_give(0, equal, shared, ID_BYTES);
-
-    way *const times_only[WAYS] = {check_proved, check_plain, read_times, check_words};
-    way *const times_and_ids[WAYS] = {check_proved, check_plain, read_both, check_words};
-    way *const label[WAYS] = {label_proved, label_plain, read_ids, NULL};
-    printf("| 1,048,576 items | proved | plain C | plain C, words | proved / plain C | proved / words | reading once |\n"
-           "|---|---|---|---|---|---|---|\n");
-    measure("check, times all different", times_only, different, ids);
-    measure("check, times equal, ids differ in 4 bytes", times_and_ids, equal, ids);
-    measure("check, times equal, ids share 24 bytes", times_and_ids, equal, shared);
-    measure("label", label, different, ids);
+    table by_time = {different, ids, ID_BYTES}, by_start = {equal, ids, ID_BYTES}, by_end = {equal, shared, ID_BYTES};
+    printf("| 1,048,576 items | proved | plain C | plain C, words | reading once | proved / plain C | proved / words | proved / reading |\n"
+           "|---|---|---|---|---|---|---|---|\n");
+    measure("check, times all different", by_time, false, false);
+    measure("check, times equal, ids differ in 4 bytes", by_start, false, true);
+    measure("check, times equal, ids share 24 bytes", by_end, false, true);
+    measure("check and label, times all different", by_time, true, true);
+    measure("check and label, times equal, ids differ in 4 bytes", by_start, true, true);
+    measure("check and label, times equal, ids share 24 bytes", by_end, true, true);
 
     /* The last item makes the difference. */
-    must_give(1, different, ids, ID_BYTES - 1);
+    by_time.id_bytes--;
+    must_give(1, by_time);
+    by_time.id_bytes++;
+    must_give(0, by_time);
     different[ITEMS - 1] = UINT64_MAX;
-    must_give(2, different, ids, ID_BYTES);
+    must_give(2, by_time);
     memcpy(shared + ID_BYTES - 32, shared + ID_BYTES - 64, 32);
-    must_give(2, equal, shared, ID_BYTES);
+    must_give(2, by_end);
     free(different);
     free(equal);
     free(ids);

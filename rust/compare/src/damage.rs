@@ -20,6 +20,12 @@ impl Made<'_, '_> {
         self.lent.out.copy_from_slice(&self.out);
     }
 
+    /// Accepts after all, and writes nothing.
+    pub fn accept(&self, outcome: &mut Outcome) {
+        let session = self.lent.session;
+        *outcome = Ok(Sent { length: 0, session });
+    }
+
     /// Refuses after all.
     pub fn refuse(&mut self, outcome: &mut Outcome, number: u8) {
         self.undo();

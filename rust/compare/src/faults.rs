@@ -150,6 +150,16 @@ fn swap_items(table: &mut OwnedTable, at: usize) {
     }
 }
 
+/// Makes the next item equal to an item, if both are there.
+fn repeat_item(table: &mut OwnedTable, at: usize) {
+    if at + 1 < table.times.len() {
+        table.times[at + 1] = table.times[at];
+    }
+    if let Some((first, second)) = two_ids(&mut table.ids, at) {
+        second.copy_from_slice(first);
+    }
+}
+
 /// 1.
 fn size_faults() -> Vec<Fault> {
     vec![
@@ -166,14 +176,14 @@ fn size_faults() -> Vec<Fault> {
 /// 2.
 fn order_faults() -> Vec<Fault> {
     vec![
-        edit(2, "equal items", |d| {
-            let table = d.edit();
-            if let [first, second, ..] = &mut table.times[..] {
-                *second = *first;
-            }
-            if let Some((first, second)) = two_ids(&mut table.ids, 0) {
-                second.copy_from_slice(first);
-            }
+        edit(2, "equal items", |d| repeat_item(d.edit(), 0)),
+        edit(2, "equal items in the middle", |d| {
+            let middle = d.table.count() / 2;
+            repeat_item(d.edit(), middle);
+        }),
+        edit(2, "equal items at the end", |d| {
+            let last_but_one = d.table.count().saturating_sub(2);
+            repeat_item(d.edit(), last_but_one);
         }),
         edit(2, "falling items", |d| swap_items(d.edit(), 0)),
         edit(2, "falling items at the end", |d| {
@@ -195,6 +205,7 @@ fn order_faults() -> Vec<Fault> {
                 second.fill(0);
             }
         }),
+        edit(2, "first time 2^64 - 1", |d| set(&mut d.edit().times, 0, u64::MAX)),
         edit(2, "last time 2^64 - 1", |d| {
             let last = d.table.count().saturating_sub(1);
             set(&mut d.edit().times, last, u64::MAX);
@@ -211,6 +222,7 @@ fn cut_faults() -> Vec<Fault> {
         edit(3, "65 parts", |d| d.cut = Cut { parts: 65, limit: 65 }),
         edit(3, "the most parts of all", |d| d.cut.parts = usize::MAX),
         edit(3, "a limit below the parts", |d| d.cut = Cut { parts: 3, limit: 2 }),
+        edit(3, "limit 63 for 64 parts", |d| d.cut = Cut { parts: 64, limit: 63 }),
         edit(3, "no limit", |d| d.cut.limit = 0),
         edit(3, "limit 4097", |d| d.cut.limit = 4_097),
         edit(3, "the largest limit of all", |d| d.cut.limit = usize::MAX),

@@ -1,8 +1,8 @@
 //! The damages of the self-check, each with the kind of cases that has to find it.
-use crate::calls::Call;
+use crate::calls::{Call, Outcome};
 use crate::damage::{Damage, Made};
 use crate::guard::Side;
-use recon::{Sent, MAX_ITEMS};
+use recon::{Cut, Sent, Table, MAX_ITEMS};
 
 /// A damage, the kind of cases that has to find it, and words of what that kind has to say.
 pub struct Trial {
@@ -133,6 +133,12 @@ fn wrong_messages() -> Vec<Trial> {
         ),
         trial("tables", words, "open changes the last byte of the query", open(last)),
         trial(
+            "tables",
+            words,
+            "open changes the query of one item more than the largest list limit",
+            open(change_above_limit),
+        ),
+        trial(
             "sessions",
             words,
             "take changes an out byte behind it",
@@ -146,6 +152,12 @@ fn wrong_messages() -> Vec<Trial> {
         ),
         trial("room", words, "open changes an out byte behind it", open(change_behind)),
     ]
+}
+
+fn change_above_limit(made: &mut Made<'_, '_>, _: &mut Sent) {
+    if made.lent.cut.limit == 4_096 && made.lent.table.times.len() == 4_097 {
+        flip(made.lent.out, 0);
+    }
 }
 
 fn change_behind(made: &mut Made<'_, '_>, sent: &mut Sent) {
@@ -165,7 +177,27 @@ fn wrong_refusals() -> Vec<Trial> {
             Damage::Refused(|_, refused| refused.session.needed ^= 1)),
         trial("damaged", number, "a message that ends early is refused by 8", Damage::Renumber(7, 8)),
         trial("sessions", number, "a session that is done is refused by 6", Damage::Renumber(5, 6)),
+        trial("refusals", number, "equal items behind the first two are accepted", Damage::Any(|made, outcome| {
+            if is_refused_by(outcome, 2) && has_equal_items(made.lent.table, 1) {
+                made.accept(outcome);
+            }
+        })),
+        trial("refusals", number, "limit 63 for 64 parts is accepted", Damage::Any(|made, outcome| {
+            if is_refused_by(outcome, 3) && made.lent.cut == (Cut { parts: 64, limit: 63 }) {
+                made.accept(outcome);
+            }
+        })),
     ]
+}
+
+fn is_refused_by(outcome: &Outcome, number: u8) -> bool {
+    matches!(outcome, Err(refused) if refused.number == number)
+}
+
+/// Whether two neighbours are equal, from this item on.
+fn has_equal_items(table: Table<'_>, from: usize) -> bool {
+    let items = || table.times.iter().zip(table.ids.chunks(32)).skip(from);
+    items().zip(items().skip(1)).any(|(first, second)| first == second)
 }
 
 fn refused_changes_out() -> Damage {
@@ -207,8 +239,7 @@ fn refuses_exact_room() -> Damage {
 fn accepts_one_more() -> Damage {
     Damage::Any(|made, outcome| {
         if made.lent.table.times.len() == MAX_ITEMS + 1 {
-            let session = made.lent.session;
-            *outcome = Ok(Sent { length: 0, session });
+            made.accept(outcome);
         }
     })
 }
@@ -222,6 +253,12 @@ fn wrong_hashes() -> Vec<Trial> {
                 *result = Ok([0; 16]);
             }
         })),
+        trial("fingerprints", "tell Err(9)", "a prefix is judged by the last byte of its length",
+            Damage::Fingerprint(|lower, _, result| {
+                if matches!(lower.prefix.len(), 256 | 288) && *result == Err(9) {
+                    *result = Ok([0; 16]);
+                }
+            })),
         trial("fingerprints", "tell Err(2)", "a bound is judged too early", Damage::Fingerprint(|_, upper, result| {
             if upper.prefix.len() > 32 && *result == Err(2) {
                 *result = Err(9);

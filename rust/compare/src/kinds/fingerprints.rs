@@ -110,14 +110,16 @@ fn bound(rng: &mut Rng, items: &[Item]) -> OwnedBound {
         finite(rng, items)
     };
     if !is_lawful && (infinite || rng.chance(50)) {
+        // The last byte of a length, or the last two, may be lawful.
         let length = if infinite {
-            rng.pick(&[1, 32, 33, 40])
+            rng.pick(&[1, 32, 33, 256, 65_536])
         } else {
-            rng.pick(&[33, 40])
+            rng.pick(&[33, 40, 256, 288, 65_536])
         };
         prefix.resize(length, 7);
     }
-    let time = if is_lawful || prefix.len() > 32 { time } else { u64::MAX };
+    let keeps_time = is_lawful || (prefix.len() > 32 && rng.chance(80));
+    let time = if keeps_time { time } else { u64::MAX };
     OwnedBound { infinite, time, prefix }
 }
 

@@ -26,10 +26,11 @@ pub fn run(case: &mut Case<'_, '_>) -> Check {
     Exchange::open(case, &ends)?.finish(case)
 }
 
-/// A size at which something changes for this cut, if it is at most so large; seldom one of the largest list limits.
+/// A size at which something changes for this cut, if it is at most so large; seldom one around the largest list limit,
+/// more often where that is the cut's.
 fn size(rng: &mut Rng, cut: Cut, most: usize) -> usize {
     let Cut { parts, limit } = cut;
-    if rng.chance(4) {
+    if rng.chance(if limit == 4_096 { 30 } else { 4 }) {
         return rng.pick(&[4_095, 4_096, 4_097]);
     }
     let near = rng.pick(&[2, limit, 2 * limit, 2 * parts, parts * limit]);

@@ -1,5 +1,5 @@
 -- `window::select::gather_list` meets its contract. The invariant: the ids before place i have been offered.
-use Prim.Native.Nat.{ℕ, _+_, _-_, _*_, _≤_}
+use Prim.Native.Nat.{ℕ, _+_, _-_, _*_, _^_, _≤_, _<_}
 use mathlib.Core.Path.{_≡_, refl, sym, _∙_}
 use mathlib.Core.List.{List, _++_}
 use mathlib.Core.Logic.{⊎-elim}
@@ -37,23 +37,29 @@ loop-holds c =
     let a = s .args in
     (omega arith, refl, s .pre .5, λ all later g. rw (list-starts (owns s) (a .m .now) (a .at) (a .count)) at g)
 
+-- what the arithmetic of a turn needs
+turn : (c : tie.In-loop Inv-loop μ-loop) → let a = c .before .before .before .before .before .before .before .args in
+    (c .before .loop .i < a .count) × (a .at + a .count * 32 ≤ length (a .m .now)) × (length (a .m .now) < 2 ^ 63) × (a .span .lo ≤ a .span .hi) × (a .span .hi * 32 ≤ length (a .own .now))
+turn c = let s = c .before .before .before .before .before .before .before in (c .loop-test .taken, s .pre .2, omega (arith, s .good .1 .0), s .pre .0, s .pre .1)
+
 wanted-requires : tie.Need-wanted-requires Inv-loop μ-loop
 wanted-requires c κs =
     let s = c .before .before .before .before .before .before .before .before in
     let v = c .before .before .loop .inv in
-    (omega arith, s .pre .3, v .1 ∙ s .pre .4, v .2 .few, v .2 .points)
+    (omega (arith, turn (c .before)), s .pre .3, v .1 ∙ s .pre .4, v .2 .few, v .2 .points)
 
 contains-requires : tie.Need-contains-requires Inv-loop μ-loop
 contains-requires c κs =
     let a = c .before .before .before .before .before .before .before .before .before .before .before .before .args in
     let p = a .at + c .before .before .before .before .before .before .loop .i * 32 in
-    (omega (arith, rest-length (a .span .lo * 32) (a .own .now)), omega (arith, rest-length p (a .m .now)))
+    let t = turn (c .before .before .before .before .before) in
+    (omega (arith, t, rest-length (a .span .lo * 32) (a .own .now)), omega (arith, t, rest-length p (a .m .now)))
 
 offer-requires : tie.Need-offer-requires Inv-loop μ-loop
 offer-requires c κs =
     let s = c .before .before .before .before .before .before .before .before .before .before .before .before .before .before .before in
     let v = c .before .before .before .before .before .before .before .before .before .loop .inv in
-    (omega arith, v .1 ∙ s .pre .4, v .2)
+    (omega (arith, turn (c .before .before .before .before .before .before .before .before)), v .1 ∙ s .pre .4, v .2)
 
 loop-again : tie.Need-loop-again Inv-loop μ-loop
 loop-again c =
@@ -61,6 +67,7 @@ loop-again c =
     let a = s .args in
     let l = c .before .before .before .before .loop in
     let v = l .inv in
+    let more : l .i < a .count = c .before .before .before .loop-test .taken in
     let told = c .before .wanted .ensures in
     let first = a .span .lo * 32 in
     let owned = a .span .hi - a .span .lo in
@@ -73,7 +80,7 @@ loop-again c =
       omega arith,
       w .6 .kept .1 .0 ∙ v .1,
       k .placed,
-      λ all later g. list-taken (owns s) (a .m .now) (a .at) (a .count) (l .i) (omega arith) all later _ _ _ (v .2) (v .3 all later g) _ told (w .0 .taken) o _ _ k,
+      λ all later g. list-taken (owns s) (a .m .now) (a .at) (a .count) (l .i) more all later _ _ _ (v .2) (v .3 all later g) _ told (w .0 .taken) o _ _ k,
     ))
     (⊎-elim
     (λ w.
@@ -82,14 +89,14 @@ loop-again c =
       omega arith,
       v .1,
       v .2,
-      λ all later g. list-own (owns s) (a .m .now) (a .at) (a .count) (l .i) (omega arith) all later _ _ _ (v .2) (v .3 all later g) o,
+      λ all later g. list-own (owns s) (a .m .now) (a .at) (a .count) (l .i) more all later _ _ _ (v .2) (v .3 all later g) o,
     ))
     (λ w.
     rw (w .1, w .2) (
       omega arith,
       v .1,
       v .2,
-      λ all later g. list-unwanted (owns s) (a .m .now) (a .at) (a .count) (l .i) (omega arith) all later _ _ _ (v .2) (v .3 all later g) _ told (w .0 .left),
+      λ all later g. list-unwanted (owns s) (a .m .now) (a .at) (a .count) (l .i) more all later _ _ _ (v .2) (v .3 all later g) _ told (w .0 .left),
     )))
     (c .if1 .came)
 
@@ -98,7 +105,7 @@ returns c =
     let s = c .before .before .before .before .before .before .before in
     let a = s .args in
     let l = c .before .loop in
-    (l .inv .2, λ all later g. rw (list-ends (owns s) (a .m .now) (a .at) (a .count) (l .i) (omega arith) later) at (l .inv .3 all later g))
+    (l .inv .2, λ all later g. rw (list-ends (owns s) (a .m .now) (a .at) (a .count) (l .i) (omega (arith, l .inv .0)) later) at (l .inv .3 all later g))
 
 pub gather-list-spec : {M : Type 1} → statement M
 gather-list-spec =
@@ -106,22 +113,22 @@ gather-list-spec =
     (tie.spec
     Inv-loop
     μ-loop
-    (λ c. omega arith)
-    (λ c. omega arith)
+    (λ c. let s = c .before .before .before .before in omega (arith, s .pre .0, s .pre .1, s .good .0))
+    (λ c. c .before .before .before .before .before .pre .0)
     loop-holds
-    (λ c. omega arith)
-    (λ c. omega arith)
+    (λ c. omega (arith, turn c))
+    (λ c. omega (arith, turn c))
     wanted-requires
-    (λ c. omega arith)
+    (λ c. omega (arith, turn (c .before .before .before)))
+    (λ c. omega (arith, turn (c .before .before .before)))
     (λ c. search needs)
-    (λ c. search needs)
-    (λ c. omega arith)
-    (λ c. search needs)
+    (λ c. omega (arith, turn (c .before .before .before .before)))
+    (λ c. omega (arith, turn (c .before .before .before .before)))
     (λ c. search needs)
     contains-requires
     offer-requires
-    (λ c. omega arith)
-    (λ c. omega arith)
+    (λ c. omega (arith, turn (c .before .before .before)))
+    (λ c. omega (arith, turn (c .before .before .before)))
     loop-again
     (λ c. c .before .loop .inv .1)
     returns)

@@ -1,6 +1,6 @@
 -- `session::opener::take_checked` meets its contract.
 use Prim.Native.Nat.{ℕ}
-use mathlib.Core.Path.{_≡_}
+use mathlib.Core.Path.{_≡_, refl, _∙_}
 use mathlib.Core.List.{List}
 use borrow.Author.Needs.{needs}
 use Rattle.message.specs.Message.{Range}
@@ -86,6 +86,8 @@ pub take-checked-spec : {M : Type 1} → statement M
 take-checked-spec =
     tie.close
     (tie.spec
-    (λ c κs. search needs) (λ c. search needs) (λ c κs. search needs) (λ c. search needs) returns (λ c κs. search needs) query-fits-requires (λ c κs. search needs)
-    (λ c. search needs) (λ c. search needs) returns-2 write-query-requires (λ c κs. search needs) join-requires (λ c κs. search needs) (λ c. search needs) (λ c. search needs)
-    (λ c. search needs) returns-3)
+    (λ c κs. search needs) (λ c. search needs) (λ c κs. search needs) (λ c. refl) returns (λ c κs. search needs) query-fits-requires (λ c κs. search needs)
+    (λ c. refl) (λ c. c .before .before .before .before .query-fits .kept .1 .1 .1 .1 .1 .0) returns-2 write-query-requires (λ c κs. search needs) join-requires (λ c κs. search needs)
+    (λ c. c .before .before .before .before .before .before .before .before .mark .kept .0) (λ c. c .before .before .before .before .join .kept .0)
+    (λ c. c .before .before .before .before .before .before .before .before .before .before .before .before .write-query .kept .1 .1 .1 .1 .1 .0 ∙ c .before .before .before .before .before .before .before .before .before .before .before .before .before .before .before .before .before .query-fits .kept .1 .1 .1 .1 .1 .0)
+    returns-3)

@@ -19,9 +19,9 @@ cutBy parts limit = record { parts = parts; limit = limit }
 abbrev pub lentTo : Session → List ℕ → List ℕ → List ℕ → E.Lent
 lentTo s marks needed out = record { session = record { marked = s .marked; needed = s .needed; done = s .done }; marks = marks; needed = needed; out = out }
 
--- an opening starts with no session: one that takes nothing
+-- An opening starts with no session. A refused one answers it: nothing is reported, and it is not done, so that nobody takes it for a finished one.
 abbrev pub noSession : Session
-noSession = record { marked = 0; needed = 0; done = true }
+noSession = record { marked = 0; needed = 0; done = false }
 
 -- the number of the refusal and no length; the number 0 and the length of the message
 abbrev pub told : A.Answer ℕ → Answer

@@ -2,9 +2,9 @@
 use Prim.Native.Nat.{ℕ}
 use mathlib.Core.Path.{_≡_, refl, sym, ap, _∙_}
 use mathlib.Core.Bool.{Bool, true, false, _||_}
-use mathlib.Core.List.{List, _++_, flatten}
+use mathlib.Core.List.{List}
 use lib.Dec.{ltb}
-use lib.ListN.{length, take, replicate}
+use lib.ListN.{length, take}
 use Rattle.message.specs.Reader.{Outcome, read}
 use Rattle.message.specs.Reader as Reader
 use Rattle.message.specs.Message.{Range, readMessage}
@@ -15,10 +15,9 @@ use Rattle.theory.proofs.Tests.{clash}
 use Rattle.table.specs.Answer.{Answer, answer, refused, refuseIf}
 use Rattle.table.specs.Table.{Table, items, wrongSize, notRising, judgeTable}
 use Rattle.cutting.specs.Cutting.{outsideLimits, judgeCut}
-use Rattle.ends.specs.Lists.{overwrite}
 use Rattle.ends.specs.Calls.{result, onceRead, reading}
 use Rattle.ends.specs.Responder.{reply, answered}
-use Rattle.ends.specs.Opener.{Lent, ones, neededIds, capacity, wrongBuffers, wrongContents, firstQuery, begin, opened, nextQuery, skipsOnly, written, marksAfter, neededAfter, conclude, taken}
+use Rattle.ends.specs.Opener.{Lent, neededIds, capacity, wrongBuffers, wrongContents, firstQuery, openingLeaves, begin, opened, nextQuery, skipsOnly, written, marksAfter, neededAfter, conclude, taken}
 use Rattle.ends.proofs.Lists.{overwrite-front}
 use Rattle.ends.proofs.Relations.{leaves}
 
@@ -91,19 +90,10 @@ unrefused-answer T c query out n e =
 
 -- ---- Open
 
--- what an unrefused opening leaves
-abbrev pub openingLeaves : Table → Cut → Lent → Lent
-openingLeaves T c l = record {
-  session = record { marked = 0; needed = 0; done = false };
-  marks = replicate (length (T .times)) 0;
-  needed = l .needed;
-  out = overwrite (writeMessage (firstQuery c (items T))) (l .out);
-}
-
 pub record Opened (T : Table) (c : Cut) (l : Lent) (n : ℕ) : Type 0 where
   pub checks : Checked T c
   pub size : length (writeMessage (firstQuery c (items T))) ≡ n
-  pub left : opened T c l .lent ≡ openingLeaves T c l
+  pub left : opened T c l .lent ≡ openingLeaves T (writeMessage (firstQuery c (items T))) l
 
 pub unrefused-opening : (T : Table) (c : Cut) (l : Lent) (n : ℕ) → opened T c l .answer ≡ answer n → Opened T c l n
 unfolding opened begin
@@ -116,6 +106,7 @@ unrefused-opening T c l n e =
 -- ---- Take
 
 pub record Taken (T : Table) (c : Cut) (m : List ℕ) (l : Lent) (n : ℕ) : Type 0 where
+  pub fits : (wrongBuffers T l || wrongContents l) ≡ false
   pub going : l .session .done ≡ false
   pub ranges : List Range
   pub rest : List ℕ
@@ -132,7 +123,7 @@ unrefused-take T c m l n e =
     let r = was-read (readMessage m) _ (v .1) in
     let x = passed 11 (ltb (capacity l) (length (neededAfter (items T) (r .0) (neededIds l)))) _ (r .3) in
     let z = both (passed 12 (ltb (length (l .out)) (length (written (nextQuery c (items T) (r .0))))) _ (x .1) .1) in
-    record { going = v .0; ranges = r .0; rest = r .1; says = r .2; size = z .0; left = z .1 }
+    record { fits = u .0; going = v .0; ranges = r .0; rest = r .1; says = r .2; size = z .0; left = z .1 }
 
 pub refused-take : (T : Table) (c : Cut) (m : List ℕ) (l : Lent) (k : ℕ) → taken T c m l .answer ≡ refused k → taken T c m l .lent ≡ l
 unfolding taken

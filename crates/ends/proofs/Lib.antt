@@ -3,7 +3,9 @@
 -- Ranges, Messages, Projection   what the two ends write can be carried by a message, and is what the theory's ends send
 -- Relations   what the theorem asks of an opening, of a reply and of an unrefused take: `Begun`, `Replied`, `Took`
 -- Reports     marks and needed ids are those of the theory
+-- Inserting   ids inserted into a list that rises: it stays so
 -- Calls       what an unrefused call went through, and what a refused take leaves
+-- Passing     what an unrefused call leaves passes check 4
 -- Simulation  a place and the theory's session that agrees with it: at the opening, after a refused take, after an unrefused one
 -- Owed        what the theory claims of a session is so of the place
 -- Takes       the theorem about lists of takes that differ in kind: `reported`, `owed-at`
@@ -18,7 +20,9 @@ pub mod Messages
 pub mod Projection
 pub mod Relations
 pub mod Reports
+pub mod Inserting
 pub mod Calls
+pub mod Passing
 pub mod Simulation
 pub mod Owed
 pub mod Takes

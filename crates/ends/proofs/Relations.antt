@@ -3,7 +3,7 @@
 use Prim.Native.Nat.{ℕ}
 use mathlib.Core.Path.{_≡_, refl, sym, ap, _∙_}
 use mathlib.Core.Bool.{Bool, false, cond}
-use mathlib.Core.List.{List, [], _∷_, flatten}
+use mathlib.Core.List.{List, [], _∷_}
 use lib.ListN.{length, replicate}
 use Rattle.message.specs.Reader.{Outcome, read}
 use Rattle.message.specs.Bound.{start}
@@ -16,8 +16,7 @@ use Rattle.theory.specs.Message.{Message}
 use Rattle.theory.specs.Lawful.{LawfulReply, LawfulNext, LawfulOpening}
 use Rattle.table.specs.Table.{Table, items}
 use Rattle.cutting.proofs.Projection.{protocol, project}
-use Rattle.ends.specs.Lists.{overwrite}
-use Rattle.ends.specs.Opener.{Lent, ones, neededIds, skipsOnly, marksAfter, neededAfter}
+use Rattle.ends.specs.Opener.{Lent, neededIds, skipsOnly, marksAfter, neededAfter, takeLeaves}
 use Rattle.ends.specs.Demand.{Place}
 use Rattle.ends.proofs.Tables.{keysOf}
 
@@ -79,15 +78,7 @@ sentOf query = cond (skipsOnly query) [] (spellMessage query)
 
 -- what an unrefused take leaves that read the ranges rs, by what it wrote, and done or not
 abbrev pub leaves : Table → List Range → List ℕ → Bool → Lent → Lent
-leaves A rs wrote done l =
-    let marks = marksAfter (items A) rs (l .marks) in
-    let needed = neededAfter (items A) rs (neededIds l) in
-    record {
-      session = record { marked = ones marks; needed = length needed; done = done };
-      marks = marks;
-      needed = overwrite (flatten needed) (l .needed);
-      out = overwrite wrote (l .out);
-    }
+leaves A rs wrote done l = takeLeaves wrote done (marksAfter (items A) rs (l .marks)) (neededAfter (items A) rs (neededIds l)) l
 
 -- An unrefused take of an opener with the table A, from what it was lent, l, to what it left, l′: the session was open, the take read the ranges rs, came to any
 -- lawful next query and wrote n bytes, and left marks, needed list and session as the text has them.

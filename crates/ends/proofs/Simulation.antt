@@ -22,7 +22,7 @@ use Rattle.table.specs.Table.{Item, Table, items}
 use Rattle.cutting.proofs.Projection.{protocol, project}
 use Rattle.ends.specs.Lists.{overwrite}
 use Rattle.ends.specs.Calls.{Result}
-use Rattle.ends.specs.Opener.{Lent, neededIds, skipsOnly, marksAfter, neededAfter}
+use Rattle.ends.specs.Opener.{Lent, neededIds, skipsOnly, marksAfter, neededAfter, takeLeaves}
 use Rattle.ends.specs.Demand.{Take, Place, sends, hands, behindCall}
 use Rattle.ends.specs.Takes.{lentAt}
 use Rattle.ends.proofs.Tables.{Kept, keysOf, endOf}
@@ -128,6 +128,7 @@ module _ (A : Table) (a : Cut) (kA : Kept A a) where
       ids-sized = needed-sized A a kA r (replied .well) (g .ids) (g .sized)
 
       list-left : (l : Lent) → l ≡ leaves A r (sentOf (w .query)) (skipsOnly (w .query)) (lentAt p t) → take (32 * l .session .needed) (l .needed) ≡ flatten ids
+      unfolding takeLeaves
       list-left l f = rw (f, ids-handed) (overwrite-front (flatten ids) (p .needed ++ t .behind) (32 * length ids) (flatten-length ids ids-sized))
 
       query-means : Means (spellMessage (w .query)) N
@@ -141,6 +142,7 @@ module _ (A : Table) (a : Cut) (kA : Kept A a) where
           rw (skips-only (w .query), z, f, z, sends-message (w .query) (t .out) n some) (Forall₂·cons query-means (g .sent)))
 
       pub taken-agrees : Agrees A (behindCall res (p .sent) (hands (res .answer) t ++ p .handed)) (after s Q (project r) N)
+      unfolding takeLeaves
       taken-agrees = record {
         ids = ids;
         sized = ids-sized;

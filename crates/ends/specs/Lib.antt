@@ -3,6 +3,7 @@
 -- Calls      what a call answers and leaves; ranges with both their bounds
 -- Responder  what either end makes of a range, and Answer
 -- Opener     Open and Take
+-- Passing    what an unrefused call leaves passes check 4: `OpeningPasses`, `TakePasses`
 -- Demand     what holds of every list of takes after one opening, two ends keeping to their tables and cuts: `Demand3`
 -- Takes      lists of takes that differ in kind from each other, and what is owed of them: the words of the one theorem (proofs/Takes.antt)
 -- Finished   two finished sessions, opened from either end: `WhoeverOpens`
@@ -11,6 +12,7 @@ pub mod Lists
 pub mod Calls
 pub mod Responder
 pub mod Opener
+pub mod Passing
 pub mod Demand
 pub mod Takes
 pub mod Finished

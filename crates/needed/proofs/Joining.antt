@@ -22,7 +22,7 @@ use Rattle.window.specs.Adding.{addedFrom}
 use Rattle.window.specs.Windows.{fromBy, Windowed}
 use Rattle.window.specs.declared.Window.{Window}
 use Rattle.window.proofs.Adding.{lacks}
-use Rattle.needed.proofs.Inserting.{Sorted}
+use Rattle.ends.proofs.Inserting.{Sorted}
 use Rattle.needed.proofs.Keeping.{keep-twice, keep-rises, lacking-enough}
 use Rattle.needed.proofs.Pointed.{ids-at-count}
 use Rattle.needed.proofs.Windows.{joined, joined-none, list-sorted, list-within, window-whole, window-rises, window-lacks, window-adds, window-counts, Next}

@@ -1,4 +1,4 @@
--- Inserting  ids inserted into a list that rises: it stays so, and the order of insertions does not matter, `Inserting.added-swap`
+-- Inserting  ids inserted into a list that rises: how many there are then, and that the order does not matter, `Inserting.added-swap`
 -- Keeping    ids kept by a test, and lists with the same ids
 -- Rising     the check of the order, id by id
 -- Places     the place of an id in a list that rises, and the insertion there

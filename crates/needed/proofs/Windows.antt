@@ -28,7 +28,8 @@ use Rattle.idlist.specs.Positions.{idsAt, keyAt, Pointing, KeysRise}
 use Rattle.window.specs.Windows.{fromBy, Held, among, beyond, Windowed}
 use Rattle.window.specs.declared.Window.{Window}
 use Rattle.window.proofs.Adding.{some-keep, lacks}
-use Rattle.needed.proofs.Inserting.{Sorted, ascends-rise, added-grows, added-sorted, added-has}
+use Rattle.ends.proofs.Inserting.{Sorted, ascends-rise, added-sorted}
+use Rattle.needed.proofs.Inserting.{added-grows, added-has}
 use Rattle.needed.proofs.Keeping.{keep-same, has-keep, left, left-falls, same-lists}
 use Rattle.needed.proofs.Merging.{added-count}
 use Rattle.needed.proofs.Pointed.{id-sized, idAt, ids-at-count, ids-at-sized}

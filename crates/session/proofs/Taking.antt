@@ -11,7 +11,7 @@ use Rattle.message.specs.Message.{Range}
 use Rattle.table.specs.Answer.{Answer, answer, refused}
 use Rattle.ends.specs.Lists.{overwrite}
 use Rattle.ends.specs.Calls.{Result, result}
-use Rattle.ends.specs.Opener.{Lent, ones, skipsOnly, written, conclude}
+use Rattle.ends.specs.Opener.{Lent, ones, skipsOnly, written, takeLeaves, conclude}
 use Rattle.session.specs.Code.{lentTo}
 use Rattle.session.specs.declared.opener.Session.{Session}
 
@@ -58,6 +58,6 @@ module _ (query : List Range) (after : List ℕ) (ids : List (List ℕ)) (s : Se
             → n ≡ length (written query) → out-now ≡ overwrite (written query) kept
             → marked-now ≡ after → size ≡ length ids → needed-now ≡ overwrite (flatten ids) needed → marked ≡ ones marked-now → done ≡ skipsOnly query
             → left ≡ record { answer = answer n; lent = lentTo (record { marked = marked; needed = size; done = done }) marked-now needed-now out-now }
-        unfolding conclude
+        unfolding conclude takeLeaves
         take-passed n marked size done marked-now needed-now out-now e₁ e₂ e₃ e₄ e₅ e₆ e₇ =
             rw (le-ltb (length needed / 32) (length ids) holds, le-ltb (length out) (length (written query)) fits, e₆, e₁, e₂, e₃, e₄, e₅, e₇, same) refl

@@ -50,11 +50,11 @@ pub struct SessionOutcome {
 }
 
 impl Session {
-    // Before an opening: no take is possible.
+    // Before an opening, and after a refused one: nothing is reported, and it is not done, so that nobody takes it for a finished one.
     pub const NONE: Session = Session {
         marked: 0,
         needed: 0,
-        done: true,
+        done: false,
     };
 }
 

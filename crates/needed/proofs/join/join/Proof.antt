@@ -17,7 +17,7 @@ use Rattle.window.specs.Adding.{addedFrom}
 use Rattle.window.specs.declared.Window.{Window}
 use Rattle.window.specs.Windows.{fromBy, Windowed}
 use Rattle.window.proofs.Adding.{added-sized}
-use Rattle.needed.proofs.Inserting.{Sorted}
+use Rattle.ends.proofs.Inserting.{Sorted}
 use Rattle.needed.proofs.Buffers.{ids-sorted}
 use Rattle.needed.proofs.Windows.{ahead, window-less, Next, next-full, next-none}
 use Rattle.needed.proofs.Counting.{needed-is}

@@ -4,7 +4,8 @@
    same order, strictly rising by time and then by id (byte by byte from the first), with times below 2^64 - 1 and n at most 1,048,576.
    A cut is its parts (2 to 64) and its list limit (parts to 4,096).
 
-   Every call answers for any values. A refused call answers with the number of its refusal, below, and changes nothing. What a caller owes
+   Every call answers for any values. A refused call answers with the number of its refusal, below, and changes nothing. Look at the refusal
+   before the session: only an answer without one says that the session went on. What a caller owes
    is what C asks anyway: a pointer points to as many elements as its length says, none of the bytes that a call may write overlap any
    other that it is handed, and, as in Rust, no pointer is null, not even where its length is 0. A take keeps 128 KiB on the stack. */
 #ifndef RECON_H
@@ -57,7 +58,7 @@ typedef struct {
 
 /* Opens a session: writes the first query at the start of out and sets the marks, one byte for each item, to 0. The needed buffer, of whole
    ids, is only looked at: the list in it is empty now. Bytes of out behind the message stay.
-   Refuses by 1 to 4 and 12; the session is then { 0, 0, true }, which takes no reply. */
+   Refuses by 1 to 4 and 12; the session is then { 0, 0, false }: nothing is reported, and it is not done. */
 recon_session_answer recon_open(const uint64_t *times, size_t times_len, const uint8_t *ids, size_t ids_len, size_t parts, size_t limit,
                                 uint8_t *marks, size_t marks_len, const uint8_t *needed, size_t needed_len, uint8_t *out, size_t out_len);
 

@@ -54,12 +54,12 @@ pub fn opening_fits(times: &[u64], own: &[u8], cut: Cut, out: &mut [u8]) -> bool
     ensures { λ r. ⌜ r ≡ leb (length (writeMessage (firstQuery (cutOf cut) (items (lent (now (times .entry)) (now (own .entry))))))) (length (now (out .entry))) ⌝ }
     ensures { λ _. ⌜ now (out .exit) ≡ now (out .entry) ⌝ }
 {
-    let start = Writer::start(out.len());
-    let begun = start.written;
+    let first = Writer::start(out.len());
+    let begun = first.written;
     if !was_taken(begun) {
         return false;
     }
-    let next = start.next;
+    let next = first.next;
     let span = whole(times);
     let measured = put_cut(next, out, false, times, own, cut, span);
     let written = measured.written;

@@ -82,11 +82,11 @@ pub trait Calls {
     fn sha256(&self, message: &[u8]) -> [u8; 32];
 }
 
-/// The session that a refused opening hands back.
+/// The session that a refused opening hands back: nothing is reported, and it is not done.
 const NO_SESSION: Session = Session {
     marked: 0,
     needed: 0,
-    done: true,
+    done: false,
 };
 
 /// The proved library, called by the safe crate.

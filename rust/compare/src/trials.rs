@@ -175,6 +175,8 @@ fn wrong_refusals() -> Vec<Trial> {
             Damage::Refused(|made, _| flip(made.lent.needed, 0))),
         trial("refusals", number, "a refused call leaves another session",
             Damage::Refused(|_, refused| refused.session.needed ^= 1)),
+        trial("refusals", number, "a refused opening leaves a session that is done",
+            Damage::Refused(|made, refused| refused.session.done |= made.call == Call::Open)),
         trial("damaged", number, "a message that ends early is refused by 8", Damage::Renumber(7, 8)),
         trial("sessions", number, "a session that is done is refused by 6", Damage::Renumber(5, 6)),
         trial("refusals", number, "equal items behind the first two are accepted", Damage::Any(|made, outcome| {

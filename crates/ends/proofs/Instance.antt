@@ -1,0 +1,69 @@
+-- All that `Demand3` asks for can be met together, on bytes.
+use mathlib.Core.Path.{_≡_, refl, sym, ap, _∙_}
+use mathlib.Core.Logic.{_⊎_, inl, inr}
+use mathlib.Core.List.{List, [], _∷_, _++_, flatten, zipWith, List·Memᴰ, List·Memᴰ·head, List·Memᴰ·cases-cons, List·Memᴰ·eq-of-singleton}
+use Prim.Native.Nat.{ℕ}
+use native.Mathlib.Omega.{arith}
+use lib.ListN.{replicate, getD}
+use Rattle.message.specs.Reader.{readBytes}
+use Rattle.message.specs.Varint.{readDigits, readVarint, digitsBefore, spellVarint}
+use Rattle.message.specs.Code.{idsIn}
+use Rattle.message.specs.Bound.{bigEndian, idSpace, key, readPrefix, readCoded, readBound, spellPrefix, spellBound}
+use Rattle.message.specs.Message.{readIds, readOfMode, readPayload, readRange, readRanges, readMessage, spellPayload, spellRange, spellRanges, spellMessage}
+use Rattle.message.specs.Meaning.{isSkip, prepend, tidy, writeMessage}
+use Rattle.table.specs.Answer.{Answer, answer, refused}
+use Rattle.table.specs.Lists.{keep, every, rising}
+use Rattle.table.specs.Table.{Item, keyOf, items, wrongSize, notRising, within}
+use Rattle.cutting.specs.Cutting.{outsideLimits, cut}
+use Rattle.ends.specs.Lists.{some, same, overwrite}
+use Rattle.ends.specs.Calls.{eachRange}
+use Rattle.ends.specs.Responder as responder
+use Rattle.ends.specs.Responder.{treat, answered}
+use Rattle.ends.specs.Opener.{wrongBuffers, wrongContents, firstQuery, openingLeaves, begin, opened, nextQuery, written, unlisted, marksAfter, unowned, insert, neededAfter, takeLeaves, conclude, taken}
+use Rattle.ends.specs.Demand.{Answers, OneTime}
+use Rattle.ends.specs.Instance.{starting, ours, theirs, two, lent, query, reply, takes, Asked, Done}
+use Rattle.ends.proofs.Demand.{demand3}
+
+-- the two ids differ
+two-ids : {C : Type 0} → starting 0x01 ≡ starting 0x02 → C
+two-ids e = let z : _≡_ {A = ℕ} 1 2 = ap (λ (l : List ℕ). getD l 0 0) e in absurd (omega arith)
+
+abbrev Either : Item → Type 0
+Either i = (i ≡ record { time = 5; id = starting 0x01 }) ⊎ List·Memᴰ i (record { time = 6; id = starting 0x02 } ∷ [])
+
+one-time : OneTime (items ours ++ items theirs)
+unfolding items idsIn zipWith
+one-time i j mi mj e = by (List·Memᴰ·cases-cons mi) (List·Memᴰ·cases-cons mj)
+  where
+    id-of : {i j : Item} → i ≡ j → i .id ≡ j .id
+    id-of = ap (λ (i : Item). i .id)
+    time-of : {i j : Item} → i ≡ j → i .time ≡ j .time
+    time-of = ap (λ (i : Item). i .time)
+    by : Either i → Either j → i .time ≡ j .time
+    by (inl p) (inl q) = time-of (p ∙ sym q)
+    by (inl p) (inr q) = two-ids (sym (id-of p) ∙ e ∙ id-of (List·Memᴰ·eq-of-singleton q))
+    by (inr p) (inl q) = two-ids (sym (id-of q) ∙ sym e ∙ id-of (List·Memᴰ·eq-of-singleton p))
+    by (inr p) (inr q) = time-of (List·Memᴰ·eq-of-singleton p ∙ sym (List·Memᴰ·eq-of-singleton q))
+
+not-both : {C : Type 0} {k n : ℕ} → _≡_ {A = Answer ℕ} (refused k) (answer n) → C
+not-both e = let z : _≡_ {A = ℕ} 0 1 = cc in absurd (omega arith)
+
+pub asked : Asked
+unfolding readMessage readRanges readRange readBound readCoded readPrefix readPayload readOfMode readIds readVarint readDigits readBytes key bigEndian idSpace writeMessage tidy prepend isSkip spellMessage spellRanges spellRange spellBound spellPrefix spellPayload spellVarint digitsBefore flatten cut items idsIn zipWith keep every rising keyOf wrongSize notRising within outsideLimits some same overwrite eachRange treat responder.reply answered wrongBuffers wrongContents firstQuery openingLeaves begin opened nextQuery written unlisted marksAfter unowned insert neededAfter takeLeaves conclude taken
+asked =
+    let answers : Answers ours theirs two two query reply = record { out = replicate 37 0; size = 37; unrefused = refl; written = refl } in
+    record {
+      ours-bytes = omega arith;
+      theirs-bytes = omega arith;
+      once = one-time;
+      smallest = record { enough = omega arith; least = λ k h. omega arith };
+      opens = refl;
+      handed = (λ n e. not-both e, (λ n e. not-both e, (λ n e. (List·Memᴰ·head refl, answers), tt)));
+      row = (λ n e. not-both e, (λ n e. not-both e, (λ n e. ([], refl), tt)));
+      enough = omega arith;
+    }
+
+pub done : Done
+done =
+    demand3 ours theirs two two (asked .ours-bytes) (asked .theirs-bytes) (asked .once) 0 (asked .smallest) lent 37 (asked .opens) takes (asked .handed)
+    .0 .ends takes [] refl (asked .row) (asked .enough)

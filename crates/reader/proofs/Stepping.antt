@@ -1,7 +1,7 @@
 -- Stepping through a message: where the ranges left can be read, so can the first of them, and the others behind it.
 use Prim.Native.Nat.{ℕ, zero, suc, _-_, _≤_, _<_}
 use mathlib.Core.Path.{_≡_, refl, sym, ap, _∙_}
-use mathlib.Core.List.{List, [], _∷_, map}
+use mathlib.Core.List.{List, [], _∷_, _++_, map}
 use native.Mathlib.Omega.{arith}
 use lib.Dec.{eqb, ltb}
 use lib.ListN.{length, take, drop, length-drop, drop-of-length-le}
@@ -15,7 +15,7 @@ use Rattle.message.proofs.Exact.{differ, byTest, got, given, passed, bytes-take
 use Rattle.message.proofs.Messages.{LawfulRange, exact-range, range-shorter, enough, ranges-back}
 use Rattle.reader.specs.Answers.{foundRange, FoundPlaced, counted}
 use Rattle.reader.specs.Private.{lowerAt, readingAt, rangesOf, rangesAt}
-use Rattle.reader.specs.Stepping.{starts, ReadAt, InTurn, leftAt, GivesRanges, Stepping}
+use Rattle.reader.specs.Stepping.{starts, ReadAt, InTurn, leftAt, Stepping}
 use Rattle.reader.specs.declared.range.Found.{Found}
 use Rattle.reader.specs.declared.range.RangeCursor.{RangeCursor}
 use Rattle.reader.specs.declared.range.RangeRead.{RangeRead}
@@ -133,13 +133,16 @@ next-range m c r bytes inside whole answer = next-of m c bytes inside whole r an
 
 -- ---- the first range, and the end
 
--- a message that `check_message` has passed
+-- a message that `check_message` has passed, and the number of ranges that it told
 pub message-read : (m : List ℕ) (n : ℕ) → read n [] ≡ counted (readMessage m) → (rs : List Range) × (readMessage m ≡ read rs [])
 message-read m n e = by (readMessage m) refl e
   where
     by : (o : Outcome (List Range)) → readMessage m ≡ o → read n [] ≡ counted o → (rs : List Range) × (readMessage m ≡ read rs [])
     by (read rs rest) f g = let z : rest ≡ [] = given (λ (a : ℕ) (b : List ℕ). rest ≡ b) (sym g) refl in (rs, f ∙ ap (read rs) z)
     by (refused k) f g = differ (cc)
+
+pub message-count : (m : List ℕ) (n : ℕ) (rs : List Range) → read n [] ≡ counted (readMessage m) → readMessage m ≡ read rs [] → n ≡ length rs
+message-count m n rs e f = given (λ (a : ℕ) (b : List ℕ). n ≡ a) (e ∙ ap counted f) refl
 
 pub lower-starts : lowerAt starts ≡ start
 unfolding starts
@@ -174,9 +177,14 @@ record Gives (m : List ℕ) (c : RangeCursor) (ranges : List Range) (reads : Lis
   whole : readingAt m (leftAt c reads) ≡ read (rangesAt m (leftAt c reads)) []
   inside : leftAt c reads .at ≤ length m
 
--- a range is left before the end alone
+-- where a range is left, the cursor stands before the end, and where none is left, at the end
 before-end : (m : List ℕ) (c : RangeCursor) → 1 ≤ length (rangesAt m c) → c .at < length m
-before-end m c h = byTest (ltb (c .at) (length m)) (ltb-true (c .at) (length m)) (λ e. absurd (omega (arith, ap length (reading-ends m c (ltb-false (c .at) (length m) e)))))
+before-end m c h = byTest (ltb (c .at) (length m)) (ltb-true (c .at) (length m)) (λ t. absurd (omega (arith, ap length (reading-ends m c (ltb-false (c .at) (length m) t)))))
+
+at-end : (m : List ℕ) (c : RangeCursor) → Bytes m → readingAt m c ≡ read (rangesAt m c) [] → c .at ≤ length m → length (rangesAt m c) ≡ 0 → c .at ≡ length m
+at-end m c bytes whole inside none =
+    byTest (ltb (c .at) (length m)) (λ t. absurd (omega (arith, some-left m c bytes (ltb-true (c .at) (length m) t) whole)))
+    (λ t. omega (arith, ltb-false (c .at) (length m) t))
 
 gives : (m : List ℕ) (c : RangeCursor) (reads : List RangeRead) → Bytes m → readingAt m c ≡ read (rangesAt m c) [] → c .at ≤ length m → InTurn m c reads → length reads ≤ length (rangesAt m c)
     → Gives m c (rangesAt m c) reads
@@ -197,19 +205,27 @@ unfolding readMessage starts
 starts-inside [] rs e = differ (cc)
 starts-inside (b ∷ m) rs e = omega arith
 
-pub stepping : Stepping
-stepping m ranges bytes e reads turn few =
+gives-all : (m : List ℕ) (ranges : List Range) (reads : List RangeRead) → Bytes m → readMessage m ≡ read ranges [] → InTurn m starts reads → length reads ≤ length ranges
+    → Gives m starts ranges reads
+gives-all m ranges reads bytes e turn few =
     let whole = reading-starts m ranges bytes e in
     let same : rangesAt m starts ≡ ranges = ap rangesOf whole in
-    let g : Gives m starts ranges reads =
-    rw same at (gives m starts reads bytes (whole ∙ ap (λ (a : List Range). read a []) (sym same)) (starts-inside m ranges e) turn (rw same few)) in
+    rw same at (gives m starts reads bytes (whole ∙ ap (λ (a : List Range). read a []) (sym same)) (starts-inside m ranges e) turn (rw same few))
+
+pub stepping : Stepping
+stepping m ranges bytes e reads turn few =
+    let g = gives-all m ranges reads bytes e turn few in
     let c = leftAt starts reads in
     let count : length (rangesAt m c) ≡ length ranges - length reads = ap length (g .others) ∙ length-drop (length reads) ranges in
     record {
       found = g .found;
       in-order = g .in-order;
-      ends = λ all. byTest (ltb (c .at) (length m))
-          (λ t. absurd (omega (arith, some-left m c bytes (ltb-true (c .at) (length m) t) (g .whole))))
-          (λ t. omega (arith, g .inside, ltb-false (c .at) (length m) t));
+      ends = λ all. at-end m c bytes (g .whole) (g .inside) (omega arith);
       goes-on = λ more. before-end m c (omega arith);
     }
+
+-- for a loop: one read more, where those before left the cursor
+pub in-turn-more : (m : List ℕ) (c : RangeCursor) (reads : List RangeRead) (r : RangeRead) → InTurn m c reads → ReadAt m (leftAt c reads) r
+    → InTurn m c (reads ++ (r ∷ [])) × (leftAt c (reads ++ (r ∷ [])) ≡ r .next)
+in-turn-more m c [] r turn one = ((one, tt), refl)
+in-turn-more m c (x ∷ reads) r turn one = let h = in-turn-more m (x .next) reads r (turn .1) one in ((turn .0, h .0), h .1)

@@ -16,6 +16,8 @@ use Rattle.writer.specs.Writing.{taken, judge, lay, started}
 use Rattle.writer.specs.Stream.{State, before}
 use Rattle.writer.specs.Handover.{HandsOver}
 use Rattle.writer.proofs.Fits.{handed-fits, handed-out, handed-at}
+use Rattle.reader.specs.Private.{rangesAt}
+use Rattle.reader.proofs.Stepping.{ranges-rise}
 use Rattle.theory.specs.Rounds.{Cut}
 use Rattle.theory.proofs.Tests.{clash}
 use Rattle.table.specs.Table.{Item, Table, items}
@@ -28,8 +30,8 @@ use Rattle.ends.specs.Responder.{reply}
 use Rattle.ends.specs.Opener.{firstQuery, nextQuery, skipsOnly, written}
 use Rattle.ends.proofs.Tables.{kept}
 use Rattle.ends.proofs.Messages.{reply-well, query-well, first-well}
-use Rattle.walk.specs.Walking.{rangesAt, starts, Walking}
-use Rattle.walk.proofs.Steps.{lower-starts, walk-rises}
+use Rattle.walk.specs.Walking.{starts, Walking}
+use Rattle.walk.proofs.Steps.{lower-starts}
 use Rattle.exchange.specs.Given.{made, isTaken, whole}
 
 -- ---- what is sent can be carried by a message
@@ -40,8 +42,8 @@ module _ (T : Table) (c : Cut) (by : Bytes (T .ids)) (ok : Passed T) (o : outsid
 
   pub made-rises : (listing : Bool) (m : List ℕ) → Bytes m → Walking T m starts → WellFormed (made listing c (items T) (rangesAt m (starts .cursor)))
   unfolding reply nextQuery
-  made-rises true m bm w = reply-well T c (kept T c by (ok .0) (ok .1) o) (rangesAt m (starts .cursor)) (rw lower-starts at (walk-rises T m starts bm w))
-  made-rises false m bm w = query-well T c (kept T c by (ok .0) (ok .1) o) (rangesAt m (starts .cursor)) (rw lower-starts at (walk-rises T m starts bm w))
+  made-rises true m bm w = reply-well T c (kept T c by (ok .0) (ok .1) o) (rangesAt m (starts .cursor)) (rw lower-starts at (ranges-rise m (starts .cursor) bm (w .reads)))
+  made-rises false m bm w = query-well T c (kept T c by (ok .0) (ok .1) o) (rangesAt m (starts .cursor)) (rw lower-starts at (ranges-rise m (starts .cursor) bm (w .reads)))
 
 -- ---- measuring
 

@@ -13,6 +13,7 @@ ghost use lib.Dec.{leb};
 ghost use lib.ListN.{length};
 ghost use Rattle.message.specs.Meaning.{writeMessage};
 ghost use Rattle.writer.specs.Writing.{verdictOf};
+ghost use Rattle.reader.specs.Private.{rangesAt};
 ghost use Rattle.table.specs.Table.{items};
 ghost use Rattle.table.specs.Code.{lent};
 ghost use Rattle.table.specs.Private.{Passed};
@@ -21,7 +22,7 @@ ghost use Rattle.cutting.specs.Code.{cutOf};
 ghost use Rattle.ends.specs.Lists.{overwrite};
 ghost use Rattle.ends.specs.Opener.{firstQuery, nextQuery, skipsOnly};
 ghost use Rattle.ends.specs.Opener as opener;
-ghost use Rattle.walk.specs.Walking.{rangesAt, starts, Walking};
+ghost use Rattle.walk.specs.Walking.{starts, Walking};
 ghost use Rattle.exchange.specs.Given.{made, isTaken};
 ghost use Rattle.exchange.specs.Given as spec;
 

@@ -22,6 +22,7 @@ ghost use Rattle.message.specs.Code.{payloadOf};
 ghost use Rattle.writer.specs.Private as W;
 ghost use Rattle.writer.specs.Stream.{before};
 ghost use Rattle.writer.specs.Handover.{after, HandsOver};
+ghost use Rattle.reader.specs.Private.{rangesAt};
 ghost use Rattle.table.specs.Table.{items, within};
 ghost use Rattle.table.specs.Code.{lent};
 ghost use Rattle.table.specs.Private.{Passed};
@@ -32,7 +33,7 @@ ghost use Rattle.ends.specs.Lists.{same};
 ghost use Rattle.ends.specs.Calls.{eachRange};
 ghost use Rattle.ends.specs.Responder.{treat};
 ghost use Rattle.ends.specs.Opener.{skipsOnly, nextQuery};
-ghost use Rattle.walk.specs.Walking.{rangesAt, starts, Walking};
+ghost use Rattle.walk.specs.Walking.{starts, Walking};
 ghost use Rattle.theory.specs.Rounds as R;
 ghost use Rattle.exchange.specs.Given.{given, equalOrNone};
 

@@ -15,17 +15,19 @@ use Rattle.message.specs.Message.{skip, fingerprint, ids, Range, range}
 use Rattle.message.specs.Code.{idsIn, payloadOf}
 use Rattle.message.specs.declared.Payload.{Payload}
 use Rattle.message.proofs.Exact.{byTest}
+use Rattle.reader.specs.Private.{lowerAt, rangesAt}
 use Rattle.reader.proofs.Listing.{part-from}
+use Rattle.reader.proofs.Stepping.{reading-ends}
 use Rattle.table.specs.Lists.{keep}
 use Rattle.table.specs.Table.{Item, Table, keyOf, items}
 use Rattle.table.specs.Private.{Passed, itemAt, placeOf}
 use Rattle.table.proofs.Items.{items-length, items-at}
 use Rattle.table.proofs.Places.{above-item, not-above-item}
 use Rattle.cutting.specs.Private.{upperOf}
-use Rattle.walk.specs.Walking.{lowerAt, rangesAt, starts, Walking, Stepped}
+use Rattle.walk.specs.Walking.{starts, Walking, Stepped}
 use Rattle.walk.specs.declared.Walk.{Walk}
 use Rattle.walk.specs.declared.Step.{Step}
-use Rattle.walk.proofs.Steps.{walk-ends}
+use Rattle.walk.proofs.Steps.{lower-starts}
 use Rattle.ends.specs.Lists.{some, same}
 use Rattle.ends.specs.Calls.{eachRange}
 use Rattle.ends.specs.Opener.{ones, unlisted, marksAfter}
@@ -217,8 +219,8 @@ pub record Marked (T : Table) (m before : List ℕ) (w : Walk) (marks : List ℕ
 
 module _ (T : Table) (m before : List ℕ) where
   pub marked-starts : (w : Walk) → w ≡ starts → Walking T m starts → length before ≡ length (T .times) → Marked T m before w before
-  unfolding marksAfter starts
-  marked-starts w e h l = subst (λ (v : Walk). Marked T m before v before) (sym e) (record { walking = h; full = l; left = refl })
+  unfolding marksAfter
+  marked-starts w e h l = subst (λ (v : Walk). Marked T m before v before) (sym e) (record { walking = h; full = l; left = rw lower-starts refl })
 
   module _ (w : Walk) (marks : List ℕ) (h : Marked T m before w marks) where
     pub marked-more : (s : Step) → Stepped T m w s → (after : List ℕ) → length after ≡ length marks
@@ -239,4 +241,4 @@ module _ (T : Table) (m before : List ℕ) where
     pub marked-ends : length m ≤ w .cursor .at → marks ≡ marksAfter (items T) (rangesAt m (starts .cursor)) before
     marked-ends k =
         marks-none (lowerAt (w .cursor)) (items T) marks (h .full ∙ sym (items-length T))
-        ∙ ap (λ r. marksFrom (lowerAt (w .cursor)) r (items T) marks) (sym (walk-ends m (w .cursor) k)) ∙ sym (h .left)
+        ∙ ap (λ r. marksFrom (lowerAt (w .cursor)) r (items T) marks) (sym (reading-ends m (w .cursor) k)) ∙ sym (h .left)

@@ -12,13 +12,14 @@ ghost use lib.ListN.{length, take, drop, getD, replicate};
 ghost use Rattle.message.specs.Bound.{Bound};
 ghost use Rattle.message.specs.Code.{idsIn, payloadOf};
 ghost use Rattle.writer.specs.Private as W;
+ghost use Rattle.reader.specs.Private.{rangesAt};
 ghost use Rattle.table.specs.Table.{items};
 ghost use Rattle.table.specs.Code.{lent};
 ghost use Rattle.table.specs.Private.{Passed, placeOf};
 ghost use Rattle.cutting.specs.Private.{upperOf, Inside};
 ghost use Rattle.ends.specs.Lists.{some, same};
 ghost use Rattle.ends.specs.Opener.{ones, unlisted, marksAfter};
-ghost use Rattle.walk.specs.Walking.{rangesAt, starts, Walking};
+ghost use Rattle.walk.specs.Walking.{starts, Walking};
 
 // Whether a mark is above 1.
 pub fn some_above_one(marks: &[u8]) -> bool

@@ -9,6 +9,7 @@ use lib.Seq.{drop-drop, drop-at}
 use Rattle.message.specs.Code.{idsIn}
 use Rattle.message.specs.WellFormed.{All, Bytes, Sized}
 use Rattle.message.proofs.Forms.{ids-count}
+use Rattle.reader.specs.Private.{rangesAt}
 use Rattle.theory.proofs.Tests.{clash}
 use Rattle.table.specs.Lists.{keep, rising}
 use Rattle.table.specs.Table.{Table, items}
@@ -17,7 +18,7 @@ use Rattle.ends.specs.Opener.{insert, neededAfter}
 use Rattle.ends.proofs.Lists.{flatten-length, ids-flatten}
 use Rattle.ends.proofs.Reports.{numbers}
 use Rattle.idlist.specs.Positions.{idsAt}
-use Rattle.walk.specs.Walking.{rangesAt, starts}
+use Rattle.walk.specs.Walking.{starts}
 use Rattle.window.specs.Adding.{addedFrom}
 use Rattle.window.specs.Windows.{fromBy, Windowed}
 use Rattle.window.specs.declared.Window.{Window}

@@ -8,12 +8,13 @@ ghost use mathlib.Core.List.{map};
 ghost use lib.ListN.{length};
 ghost use Rattle.message.specs.Bound.{bigEndian};
 ghost use Rattle.message.specs.Code.{idsIn};
+ghost use Rattle.reader.specs.Private.{rangesAt};
 ghost use Rattle.table.specs.Lists.{rising};
 ghost use Rattle.table.specs.Table.{items};
 ghost use Rattle.table.specs.Code.{lent};
 ghost use Rattle.table.specs.Private.{Passed};
 ghost use Rattle.ends.specs.Opener.{neededAfter};
-ghost use Rattle.walk.specs.Walking.{rangesAt, starts, Walking};
+ghost use Rattle.walk.specs.Walking.{starts, Walking};
 
 // How many ids a reply adds to the needed list of `size` ids: window by window, those that are not on it.
 pub fn count_new(needed: &[u8], size: usize, times: &[u64], own: &[u8], m: &[u8]) -> usize

@@ -14,6 +14,7 @@ use Rattle.message.specs.declared.Refusal.{Refusal}
 use Rattle.message.proofs.Order.{Small, small-bytes, small-drop}
 use Rattle.message.proofs.Messages.{range-shorter, enough}
 use Rattle.reader.specs.Answers.{foundRange, rangeRead, RangePlaced, counted}
+use Rattle.reader.specs.Private.{lowerAt}
 use Rattle.reader.specs.declared.range.Found.{Found}
 use Rattle.reader.specs.declared.range.RangeCursor.{RangeCursor}
 use Rattle.reader.specs.declared.range.RangeRead.{RangeRead}
@@ -74,30 +75,26 @@ unfolding readRanges
 check-end zero n lower m i h = let e : n + 0 ≡ n = omega arith in rw (drop-of-length-le m h) (ap (λ n. read n []) e)
 check-end (suc f) n lower m i h = let e : n + 0 ≡ n = omega arith in rw (drop-of-length-le m h) (ap (λ n. read n []) e)
 
--- the bound before the cursor
-abbrev pub lowerOf : RangeCursor → Bound
-lowerOf c = boundOf (c .lower) (c .prefix)
-
 -- n ranges were read, the next one is r
-module _ (m : List ℕ) (c : RangeCursor) (n : ℕ) (r : RangeRead) (inside : c .at < length m) (e : rangeRead m r ≡ readRange (lowerOf c) (drop (c .at) m)) where
-  found : (x : Found) → r .found ≡ x → foundRange x m r ≡ readRange (lowerOf c) (drop (c .at) m)
+module _ (m : List ℕ) (c : RangeCursor) (n : ℕ) (r : RangeRead) (inside : c .at < length m) (e : rangeRead m r ≡ readRange (lowerAt c) (drop (c .at) m)) where
+  found : (x : Found) → r .found ≡ x → foundRange x m r ≡ readRange (lowerAt c) (drop (c .at) m)
   found x h = ap (λ y. foundRange y m r) (sym h) ∙ e
 
   left : (1 ≤ length (drop (c .at) m)) × (length (drop (c .at) m) ≤ length m)
   left = rw (length-drop (c .at) m) (omega arith)
 
-  pub check-refused : (k : Refusal) → r .found ≡ Found.Refused k → more n (readRanges (length m) (lowerOf c) (drop (c .at) m)) ≡ refused (numberOf k)
-  check-refused k h = refused-at (length m) n (numberOf k) (lowerOf c) (drop (c .at) m) (found (Found.Refused k) h) (left .0) (left .1)
+  pub check-refused : (k : Refusal) → r .found ≡ Found.Refused k → more n (readRanges (length m) (lowerAt c) (drop (c .at) m)) ≡ refused (numberOf k)
+  check-refused k h = refused-at (length m) n (numberOf k) (lowerAt c) (drop (c .at) m) (found (Found.Refused k) h) (left .0) (left .1)
 
   pub check-on : Small m → RangePlaced c m r → r .found ≡ Found.Range
       → (length m - r .next .at < length m - c .at)
-      × (more n (readRanges (length m) (lowerOf c) (drop (c .at) m)) ≡ more (n + 1) (readRanges (length m) (lowerOf (r .next)) (drop (r .next .at) m)))
+      × (more n (readRanges (length m) (lowerAt c) (drop (c .at) m)) ≡ more (n + 1) (readRanges (length m) (lowerAt (r .next)) (drop (r .next .at) m)))
   check-on s q h =
       let bytes = small-bytes (drop (c .at) m) (small-drop (c .at) m s) in
       let p = rw h at q in
-      let same : lowerOf (r .next) ≡ boundOf (r .range .bound) (r .range .prefix) = rw (p .3, p .4) refl in
-      let less = range-shorter (lowerOf c) (drop (c .at) m) (rangeOf (r .range) m) (drop (r .next .at) m) bytes (sym (found Found.Range h)) in (
+      let same : lowerAt (r .next) ≡ boundOf (r .range .bound) (r .range .prefix) = rw (p .3, p .4) refl in
+      let less = range-shorter (lowerAt c) (drop (c .at) m) (rangeOf (r .range) m) (drop (r .next .at) m) bytes (sym (found Found.Range h)) in (
         omega (arith, length-drop (c .at) m, length-drop (r .next .at) m),
-        read-at (length m) n (lowerOf c) (drop (c .at) m) (rangeOf (r .range) m) (drop (r .next .at) m) bytes (found Found.Range h) (left .0) (left .1)
+        read-at (length m) n (lowerAt c) (drop (c .at) m) (rangeOf (r .range) m) (drop (r .next .at) m) bytes (found Found.Range h) (left .0) (left .1)
             ∙ ap (λ b. more (n + 1) (readRanges (length m) b (drop (r .next .at) m))) (sym same),
       )

@@ -1,15 +1,16 @@
--- For contracts of private functions alone.
+-- For contracts of private functions, and of functions that only our own crates call: the ranges that are left at a cursor.
 use Prim.Native.Nat.{ℕ, _+_, _≤_}
 use mathlib.Core.Path.{_≡_}
-use mathlib.Core.List.{List}
+use mathlib.Core.List.{List, []}
 use lib.ListN.{length, take, drop}
 use Rattle.message.specs.Reader.{Outcome, read, refused, after, give}
-use Rattle.message.specs.Code.{numberOf}
+use Rattle.message.specs.Code.{numberOf, boundOf}
 use Rattle.message.specs.Bound.{Bound, time, above, readBound}
-use Rattle.message.specs.Message.{Payload, Range, range}
+use Rattle.message.specs.Message.{Payload, Range, range, readRanges}
 use Rattle.reader.specs.Answers.{boundRead}
 use Rattle.reader.specs.declared.bound.PrefixRead.{PrefixRead}
 use Rattle.reader.specs.declared.bound.BoundRead.{BoundRead}
+use Rattle.reader.specs.declared.range.RangeCursor.{RangeCursor}
 
 -- a prefix that was read, its place and its length
 abbrev pub prefixRead : List ℕ → PrefixRead → Outcome (List ℕ)
@@ -28,3 +29,20 @@ BeforeOrder last m at r = (lower : Bound) → time lower ≡ last → after (bou
 -- a bound with the payload that was read behind it
 abbrev pub withPayload : Bound → Outcome Payload → Outcome Range
 withPayload u o = after o (λ p. give (range u p))
+
+-- ---- at a cursor
+
+-- the bound before it
+abbrev pub lowerAt : RangeCursor → Bound
+lowerAt c = boundOf (c .lower) (c .prefix)
+
+-- the reading of the ranges from the cursor on, and these ranges; each takes a byte at least, so the number of bytes is enough
+unfoldable pub readingAt : List ℕ → RangeCursor → Outcome (List Range)
+readingAt m c = readRanges (length m) (lowerAt c) (drop (c .at) m)
+
+abbrev pub rangesOf : Outcome (List Range) → List Range
+rangesOf (read rs rest) = rs
+rangesOf (refused k) = []
+
+abbrev pub rangesAt : List ℕ → RangeCursor → List Range
+rangesAt m c = rangesOf (readingAt m c)

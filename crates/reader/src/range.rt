@@ -10,9 +10,10 @@ ghost use Prim.Native.Nat.{_+_, _≤_};
 ghost use mathlib.Core.Path.{_≡_};
 ghost use lib.ListN.{length, drop};
 ghost use Rattle.message.specs.Code.{boundOf};
-ghost use Rattle.message.specs.Message.{readPayload, readRange};
+ghost use Rattle.message.specs.Message.{readPayload};
 ghost use Rattle.reader.specs.Answers.{padded, Kept, rangeRead, RangePlaced, refusedAt};
 ghost use Rattle.reader.specs.Private.{withPayload};
+ghost use Rattle.reader.specs.Stepping.{ReadAt};
 
 // A place in a message, and the bound before it with its prefix beside it.
 pub struct RangeCursor {
@@ -100,7 +101,7 @@ impl RangeCursor {
     }
 
     pub fn range(self, m: &[u8]) -> RangeRead
-        ensures { λ r. ⌜ (rangeRead (now (m .entry)) r ≡ readRange (boundOf (self .lower) (self .prefix)) (drop (self .at) (now (m .entry)))) × RangePlaced self (now (m .entry)) r ⌝ }
+        ensures { λ r. ⌜ ReadAt (now (m .entry)) self r ⌝ }
     {
         let at = self.at;
         let lower = self.lower;

@@ -24,6 +24,7 @@ ghost use mathlib.Core.List.{List, map};
 ghost use lib.ListN.{length};
 ghost use Rattle.message.specs.Bound.{bigEndian};
 ghost use Rattle.message.specs.Code.{idsIn};
+ghost use Rattle.reader.specs.Private.{rangesAt};
 ghost use Rattle.table.specs.Answer.{answer, refused, refuseIf};
 ghost use Rattle.table.specs.Lists.{rising};
 ghost use Rattle.table.specs.Table.{judgeTable, items};
@@ -33,7 +34,7 @@ ghost use Rattle.cutting.specs.Cutting.{judgeCut, outsideLimits};
 ghost use Rattle.cutting.specs.Code.{cutOf};
 ghost use Rattle.ends.specs.Calls.{reading, result};
 ghost use Rattle.ends.specs.Opener.{wrongBuffers, wrongContents, opened, taken, conclude, nextQuery, marksAfter, neededAfter};
-ghost use Rattle.walk.specs.Walking.{rangesAt, starts, Walking};
+ghost use Rattle.walk.specs.Walking.{starts, Walking};
 ghost use Rattle.session.specs.Code.{outcomeOf, lentTo, noSession};
 
 // How many marks are 1, how many ids are needed, and whether the session is done.

@@ -2,38 +2,22 @@
 use Prim.Native.Nat.{ℕ, _≤_, _<_}
 use mathlib.Core.Path.{_≡_}
 use mathlib.Core.List.{List, [], _∷_}
-use lib.ListN.{length, drop, replicate}
-use Rattle.message.specs.Reader.{Outcome, read, refused}
-use Rattle.message.specs.Bound as B
-use Rattle.message.specs.Message.{Range, range, readRanges}
-use Rattle.message.specs.Code.{boundOf, payloadOf}
-use Rattle.message.specs.declared.Bound.{Bound}
+use lib.ListN.{length}
+use Rattle.message.specs.Reader.{read}
+use Rattle.message.specs.Message.{range}
+use Rattle.message.specs.Code.{payloadOf}
 use Rattle.writer.specs.Private as writer
-use Rattle.reader.specs.declared.range.RangeCursor.{RangeCursor}
+use Rattle.reader.specs.Private.{lowerAt, readingAt, rangesAt}
+use Rattle.reader.specs.Stepping as reader
 use Rattle.table.specs.Table.{Table, items, within}
 use Rattle.table.specs.Private.{placeOf}
 use Rattle.cutting.specs.Private.{ownIn, upperOf, Inside}
 use Rattle.walk.specs.declared.Walk.{Walk}
 use Rattle.walk.specs.declared.Step.{Step}
 
--- the bound before the cursor
-abbrev pub lowerAt : RangeCursor → B.Bound
-lowerAt c = boundOf (c .lower) (c .prefix)
-
--- the reading of the ranges from the cursor on, and these ranges; each takes a byte at least, so the number of bytes is enough
-unfoldable pub readingAt : List ℕ → RangeCursor → Outcome (List Range)
-readingAt m c = readRanges (length m) (lowerAt c) (drop (c .at) m)
-
-abbrev pub rangesOf : Outcome (List Range) → List Range
-rangesOf (read rs rest) = rs
-rangesOf (refused k) = []
-
-abbrev pub rangesAt : List ℕ → RangeCursor → List Range
-rangesAt m c = rangesOf (readingAt m c)
-
 -- before the first range
 unfoldable pub starts : Walk
-starts = record { cursor = record { at = 1; lower = Bound.At 0 0; prefix = replicate 32 0 }; lo = 0 }
+starts = record { cursor = reader.starts; lo = 0 }
 
 -- the rest of the message can be read, and the bound before it has this place in the table
 pub record Walking (T : Table) (m : List ℕ) (w : Walk) : Type 0 where

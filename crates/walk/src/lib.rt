@@ -1,6 +1,5 @@
 // Steps through a message range by range, with the own items of each range. For our own crates: message and table are checked before.
 use cutting::Span;
-use message::Bound;
 use message::Payload;
 use reader::range::RangeCursor;
 use table::search::first_at_or_above;
@@ -29,15 +28,8 @@ impl Walk {
     pub fn start() -> Walk
         ensures { λ r. ⌜ r ≡ starts ⌝ }
     {
-        let prefix = [0u8; 32];
-        Walk {
-            cursor: RangeCursor {
-                at: 1,
-                lower: Bound::At { time: 0, len: 0 },
-                prefix,
-            },
-            lo: 0,
-        }
+        let cursor = RangeCursor::START;
+        Walk { cursor, lo: 0 }
     }
 
     // The next range of the message.

@@ -17,6 +17,8 @@ use Rattle.message.proofs.Exact.{byTest, bytes-take}
 use Rattle.message.proofs.Messages.{ranges-back}
 use Rattle.writer.specs.Private as writer
 use Rattle.writer.proofs.Laying.{rest, rest-is}
+use Rattle.reader.specs.Private.{lowerAt, readingAt, rangesAt}
+use Rattle.reader.proofs.Stepping.{ranges-rise, reading-ends}
 use Rattle.table.specs.Lists.{keep}
 use Rattle.table.specs.Table.{Item, Table, items, within, idsOf}
 use Rattle.table.specs.Private.{Passed}
@@ -32,10 +34,9 @@ use Rattle.ends.proofs.Lists.{flatten-length}
 use Rattle.ends.proofs.Tables.{same-true}
 use Rattle.ends.proofs.Messages.{all-append, keep-length}
 use Rattle.ends.proofs.Reports.{unowned-sized}
-use Rattle.walk.specs.Walking.{lowerAt, readingAt, rangesAt, starts, Walking, Stepped}
+use Rattle.walk.specs.Walking.{starts, Walking, Stepped}
 use Rattle.walk.specs.declared.Walk.{Walk}
 use Rattle.walk.specs.declared.Step.{Step}
-use Rattle.walk.proofs.Steps.{walk-rises, walk-ends}
 use Rattle.window.specs.Adding.{addedFrom}
 
 -- ---- lists
@@ -112,7 +113,7 @@ module _ (T : Table) (m : List ℕ) (w : Walk) where
 
   pub added-ends : length m ≤ w .cursor .at → addedFrom T m w ≡ []
   unfolding addedFrom eachRange flatten
-  added-ends h = rw (walk-ends m (w .cursor) h) refl
+  added-ends h = rw (reading-ends m (w .cursor) h) refl
 
   -- one range, then those behind it
   pub next-has : (d : List ℕ) (s : Step) (r a : Bool) → Stepped T m w s
@@ -148,7 +149,7 @@ few is x (range y p ∷ rs) h =
 module _ (T : Table) (m : List ℕ) (w : Walk) (bytes : Bytes m) (walking : Walking T m w) where
   pub added-sized : All (Sized 32) (addedFrom T m w)
   unfolding addedFrom
-  added-sized = unowned-sized (items T) (lowerAt (w .cursor)) (rangesAt m (w .cursor)) (walk-rises T m w bytes walking)
+  added-sized = unowned-sized (items T) (lowerAt (w .cursor)) (rangesAt m (w .cursor)) (ranges-rise m (w .cursor) bytes (walking .reads))
 
   pub added-few : length (addedFrom T m w) ≤ length m
   unfolding addedFrom readingAt

@@ -17,6 +17,7 @@ use Rattle.message.proofs.Exact.{byTest, differ}
 use Rattle.theory.specs.Table.{has}
 use Rattle.theory.proofs.Tables.{has-cases, has-here, has-there}
 use Rattle.writer.proofs.Laying.{rest, rest-is}
+use Rattle.reader.specs.Private.{lowerAt}
 use Rattle.table.specs.Lists.{keep}
 use Rattle.table.specs.Table.{Table, items, within}
 use Rattle.table.proofs.Words.{bigEndian-take}
@@ -25,7 +26,7 @@ use Rattle.cutting.specs.Private.{ownIn, upperOf}
 use Rattle.cutting.specs.declared.Span.{Span}
 use Rattle.ends.specs.Lists.{some, same}
 use Rattle.ends.specs.Opener.{unowned}
-use Rattle.walk.specs.Walking.{lowerAt, Stepped}
+use Rattle.walk.specs.Walking.{Stepped}
 use Rattle.walk.specs.declared.Walk.{Walk}
 use Rattle.walk.specs.declared.Step.{Step}
 use Rattle.idlist.specs.Positions.{keyAt, Pointing}

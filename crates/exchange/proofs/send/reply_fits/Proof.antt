@@ -10,10 +10,11 @@ use Rattle.writer.specs.Stream.{before}
 use Rattle.writer.specs.Handover.{after, HandsOver}
 use Rattle.writer.specs.Writing.{started}
 use Rattle.writer.proofs.Fits.{handed-measured}
+use Rattle.reader.specs.Private.{rangesAt}
 use Rattle.table.specs.Code.{lent}
 use Rattle.table.specs.Table.{Table, items}
 use Rattle.cutting.specs.Code.{cutOf}
-use Rattle.walk.specs.Walking.{rangesAt, starts}
+use Rattle.walk.specs.Walking.{starts}
 use Rattle.exchange.specs.Given.{made, isTaken}
 use Rattle.exchange.proofs.Sending.{made-rises, no-start, start-room, measured}
 use Rattle.exchange.proofs.send.reply_fits.Statement.{statement}

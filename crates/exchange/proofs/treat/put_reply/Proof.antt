@@ -11,13 +11,14 @@ use Rattle.writer.specs.Writing.{verdictOf}
 use Rattle.writer.specs.Stream.{before}
 use Rattle.writer.specs.Handover.{after, HandsOver}
 use Rattle.writer.proofs.Handover.{after-before}
+use Rattle.reader.specs.Private.{lowerAt, rangesAt}
 use Rattle.table.specs.Code.{lent}
 use Rattle.table.specs.Table.{Table, items}
 use Rattle.cutting.specs.Code.{cutOf}
 use Rattle.cutting.specs.Private.{upperOf}
 use Rattle.ends.specs.Calls.{eachRange}
 use Rattle.ends.specs.Responder.{treat}
-use Rattle.walk.specs.Walking.{lowerAt, rangesAt, starts}
+use Rattle.walk.specs.Walking.{starts}
 use Rattle.exchange.specs.Given.{given}
 use Rattle.exchange.proofs.Treating.{Treated, treated-start, treated-end, treated-next, treated-stop}
 use Rattle.exchange.proofs.treat.put_reply.Statement.{statement}

@@ -7,13 +7,14 @@ use borrow.Author.Needs.{needs}
 use Rattle.message.specs.Message.{readRanges, readMessage}
 use Rattle.message.proofs.Order.{Small}
 use Rattle.reader.specs.Answers.{counted}
-use Rattle.reader.proofs.ReadingMessages.{more, lowerOf, check-empty, check-other, check-ranges, check-end, check-refused, check-on}
+use Rattle.reader.specs.Private.{lowerAt}
+use Rattle.reader.proofs.ReadingMessages.{more, check-empty, check-other, check-ranges, check-end, check-refused, check-on}
 use Rattle.reader.proofs.check.check_message.Statement.{statement}
 use Rattle.reader.proofs.check.check_message.Tie as tie
 
 abbrev Inv-loop : tie.InvT-loop
 Inv-loop m cursor₀ count₀ cursor count =
-    (count + (length m - cursor .at) < length m) × (counted (readMessage m) ≡ more count (readRanges (length m) (lowerOf cursor) (drop (cursor .at) m)))
+    (count + (length m - cursor .at) < length m) × (counted (readMessage m) ≡ more count (readRanges (length m) (lowerAt cursor) (drop (cursor .at) m)))
 
 abbrev μ-loop : tie.MeasureT-loop
 μ-loop m cursor₀ count₀ cursor count = length m - cursor .at
@@ -64,7 +65,7 @@ returns-4 : tie.Need-returns-4 Inv-loop μ-loop
 returns-4 c =
     let m = c .before .before .before .before .before .before .before .args .m .now in
     let l = c .before .before .loop in
-    sym (l .inv .1 ∙ check-end (length m) (l .count) (lowerOf (l .cursor)) m (l .cursor .at) (c .if3 .left))
+    sym (l .inv .1 ∙ check-end (length m) (l .count) (lowerAt (l .cursor)) m (l .cursor .at) (c .if3 .left))
 
 pub check-message-spec : {M : Type 1} → statement M
 check-message-spec =

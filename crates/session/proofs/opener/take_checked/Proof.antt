@@ -5,10 +5,11 @@ use mathlib.Core.List.{List}
 use borrow.Author.Needs.{needs}
 use Rattle.message.specs.Message.{Range}
 use Rattle.message.specs.Code.{idsIn}
+use Rattle.reader.specs.Private.{rangesAt}
 use Rattle.table.specs.Code.{lent}
 use Rattle.table.specs.Table.{Item, items}
 use Rattle.cutting.specs.Code.{cutOf}
-use Rattle.walk.specs.Walking.{rangesAt, starts}
+use Rattle.walk.specs.Walking.{starts}
 use Rattle.ends.specs.Opener.{skipsOnly, nextQuery, marksAfter, neededAfter}
 use Rattle.session.proofs.Taking.{take-full, join-room, take-long, query-room, take-passed}
 use Rattle.session.proofs.opener.take_checked.Statement.{statement}

@@ -4,9 +4,10 @@ use mathlib.Core.Path.{_≡_, refl, _∙_}
 use native.Mathlib.Omega.{arith}
 use lib.ListN.{length}
 use borrow.Author.Needs.{needs}
+use Rattle.reader.specs.Private.{lowerAt}
 use Rattle.table.specs.Code.{lent}
 use Rattle.table.specs.Table.{Table, items}
-use Rattle.walk.specs.Walking.{lowerAt, starts, Walking}
+use Rattle.walk.specs.Walking.{starts, Walking}
 use Rattle.window.specs.Adding.{addedFrom}
 use Rattle.window.specs.Windows.{fromBy, Placed, Gathering}
 use Rattle.window.proofs.Adding.{own-room, ids-inside, skip-adds, fingerprint-adds}

@@ -7,7 +7,7 @@ use native.Mathlib.Nat.{div-lt-iff-lt-mul, pow-suc}
 use native.Mathlib.Numerals.{add-one}
 use native.Mathlib.Decide.{decLe}
 use lib.Dec.{lit<}
-use lib.ListN.{length, take, drop, set, getD, replicate, length-append, length-drop, drop-of-length-le}
+use lib.ListN.{length, take, drop, set, getD, length-append, length-drop, drop-of-length-le}
 use lib.Seq.{drop-cons, drop-drop, take-suc, set-at, append-snoc, take-all, take-length, take-append-seam, drop-append-seam}
 use borrow.Author.Tests.{lt-ltb, le-ltb}
 use Rattle.io.specs.Digits.{digits, Fewest}
@@ -15,8 +15,8 @@ use Rattle.message.specs.Bound.{prefix}
 use Rattle.message.specs.Message.{Payload, range}
 use Rattle.message.specs.Code.{boundOf}
 use Rattle.message.specs.declared.Bound as Code
-use Rattle.text.specs.Text.{digit, space, newline, dash, decimalUpTo, decimal, hex, timeField, prefixField, modeField, payloadField, line, held}
-use Rattle.text.specs.Private.{put, spaced, payloadFields}
+use Rattle.text.specs.Text.{digit, space, newline, dash, decimalUpTo, decimal, hex, timeField, prefixField, modeField, payloadField, line, put}
+use Rattle.text.specs.Private.{spaced, payloadFields}
 
 pub length-put : (t out : List ℕ) → length t ≤ length out → length (put t out) ≡ length out
 unfolding put
@@ -225,7 +225,3 @@ three-put t p q out o₁ l₂ l₃ a b c ea eb ec h e f g =
     let all = length-append (t ++ p) q in
     let second = put-behind t p out o₁ l₂ a ea (omega arith) e f in
     (omega arith, put-behind (t ++ p) q out _ l₃ (a + b) (omega arith) (omega arith) second g)
-
-pub held-is : (t last : List ℕ) (r : ℕ) → r ≡ length t → last ≡ put t (replicate 131 0) → record { bytes = last; len = r } ≡ held t
-unfolding held put
-held-is t last r e p = λ i. record { bytes = p i; len = e i }

@@ -1,13 +1,13 @@
--- The text of a message, as the program `showmsg` prints it: "a line for each written range, with one space between fields". Text is a list
--- of ASCII codes.
-use Prim.Native.Nat.{ℕ, zero, suc, _+_, _/_, _%_}
+-- The text of a message, as the program `showmsg` prints it. Text is a list of ASCII codes.
+use Prim.Native.Nat.{ℕ, zero, suc, _+_, _/_, _%_, _≤_}
 use mathlib.Core.Bool.{cond}
-use mathlib.Core.List.{List, [], _∷_, _++_}
+use mathlib.Core.List.{List, [], _∷_, _++_, map, flatten}
 use lib.Dec.{ltb}
-use lib.ListN.{length, drop, replicate}
+use lib.ListN.{length, drop}
+use Rattle.message.specs.Reader.{Outcome, read, refused}
 use Rattle.message.specs.Bound.{Bound, infinity, finite, prefix}
-use Rattle.message.specs.Message.{Payload, skip, fingerprint, ids, Range, range}
-use Rattle.text.specs.declared.Line.{Line}
+use Rattle.message.specs.Message.{Payload, skip, fingerprint, ids, Range, range, readMessage}
+use Rattle.message.specs.WellFormed.{Bytes}
 
 abbrev pub space : ℕ
 space = 0x20
@@ -17,6 +17,10 @@ newline = 0x0A
 
 abbrev pub dash : ℕ
 dash = 0x2D
+
+-- "more: the line `too long`"
+unfoldable pub tooLong : List ℕ
+tooLong = 0x74 ∷ 0x6F ∷ 0x6F ∷ space ∷ 0x6C ∷ 0x6F ∷ 0x6E ∷ 0x67 ∷ newline ∷ []
 
 -- 0 to 9, then a to f
 abbrev pub digit : ℕ → ℕ
@@ -58,6 +62,7 @@ payloadField skip = dash ∷ []
 payloadField (fingerprint f) = hex f
 payloadField (ids l) = decimal (length l)
 
+-- "with one space between fields"
 unfoldable pub line : Range → List ℕ
 line (range u p) = timeField u ++ (space ∷ (prefixField (prefix u) ++ (space ∷ (modeField p ++ (space ∷ (payloadField p ++ (newline ∷ [])))))))
 
@@ -65,6 +70,32 @@ line (range u p) = timeField u ++ (space ∷ (prefixField (prefix u) ++ (space �
 unfoldable pub refusalLine : ℕ → List ℕ
 refusalLine n = 0x72 ∷ 0x65 ∷ 0x66 ∷ 0x75 ∷ 0x73 ∷ 0x65 ∷ 0x64 ∷ space ∷ (decimal n ++ (newline ∷ []))
 
--- a text as the code holds it: in an array, with zeros behind it
-unfoldable pub held : List ℕ → Line
-held t = record { bytes = t ++ drop (length t) (replicate 131 0); len = length t }
+-- "It prints a line for each written range"
+unfoldable pub lines : List Range → List ℕ
+lines rs = flatten (map line rs)
+
+-- for a message that is not too long, by what reading it comes to
+abbrev pub printed : Outcome (List Range) → List ℕ
+printed (read rs rest) = lines rs
+printed (refused k) = refusalLine k
+
+-- All that is printed for these bytes. "The program `showmsg` reads a message of at most 65,536 bytes": `too long` comes before any refusal.
+unfoldable pub shown : List ℕ → List ℕ
+shown m = cond (ltb 65536 (length m)) tooLong (printed (readMessage m))
+
+-- ---- in a buffer
+
+-- room for every text: no range has more than ten bytes of text for each of its own, and a skip of three bytes can have 30
+abbrev pub room : ℕ
+room = 655360
+
+abbrev pub ShownFits : Type 0
+ShownFits = (m : List ℕ) → Bytes m → length (shown m) ≤ room
+
+-- what `show` writes at the start of `out`: nothing where `out` has less room
+unfoldable pub shownIn : List ℕ → List ℕ → List ℕ
+shownIn out m = cond (ltb (length out) room) [] (shown m)
+
+-- a text written at the start of a buffer that has room for it
+unfoldable pub put : List ℕ → List ℕ → List ℕ
+put t out = t ++ drop (length t) out

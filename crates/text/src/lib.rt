@@ -1,22 +1,18 @@
-// The lines that `showmsg` prints.
+// The text that `showmsg` prints.
+pub mod show;
+
 use message::Bound;
 use message::Payload;
 use message::Range;
-use message::Refusal;
 ghost use Prim.Native.Nat.{_+_, _*_, _≤_, _<_};
 ghost use mathlib.Core.Path.{_≡_};
 ghost use mathlib.Core.List.{[], _∷_, _++_};
 ghost use lib.ListN.{length, take, drop};
-ghost use Rattle.message.specs.Code.{numberOf, boundOf, payloadOf, rangeOf};
+ghost use Rattle.message.specs.Code.{boundOf, payloadOf, rangeOf};
 ghost use Rattle.message.specs.declared.Payload.{Payload};
 ghost use Rattle.text.specs.Text as spec;
-ghost use Rattle.text.specs.Private.{put, spaced, payloadFields};
-
-// A line of text: the first `len` bytes. The longest, of 20 digits, 64 and 32 hex digits, takes 131.
-pub struct Line {
-    pub bytes: [u8; 131],
-    pub len: usize,
-}
+ghost use Rattle.text.specs.Text.{put};
+ghost use Rattle.text.specs.Private.{spaced, payloadFields};
 
 fn digit(d: u8) -> u8
     requires { ⌜ d < 16 ⌝ }
@@ -149,7 +145,8 @@ fn put_payload(out: &mut [u8], payload: Payload, m: &[u8]) -> usize
     }
 }
 
-fn put_line(out: &mut [u8], range: Range, m: &[u8]) -> usize
+// The line of a range whose payload is in m. The longest, of 20 digits, 64 and 32 hex digits, takes 131 bytes.
+pub(crate) fn put_line(out: &mut [u8], range: Range, m: &[u8]) -> usize
     requires { ⌜ 131 ≤ length (now out) ⌝ }
     ensures { λ r. ⌜ (r ≡ length (spec.line (rangeOf range (now (m .entry))))) × (r ≤ 131) ⌝ }
     ensures { λ _. ⌜ now (out .exit) ≡ put (spec.line (rangeOf range (now (m .entry)))) (now (out .entry)) ⌝ }
@@ -162,29 +159,11 @@ fn put_line(out: &mut [u8], range: Range, m: &[u8]) -> usize
     b + put_payload(&mut out[b..], payload, m)
 }
 
-// The line of a range whose payload is in m.
-pub fn range_line(range: Range, m: &[u8]) -> Line
-    ensures { λ r. ⌜ r ≡ spec.held (spec.line (rangeOf range (now (m .entry)))) ⌝ }
-{
-    let mut bytes = [0u8; 131];
-    let len = put_line(&mut bytes, range, m);
-    Line { bytes, len }
-}
-
-fn put_refusal(out: &mut [u8], n: u64) -> usize
+pub(crate) fn put_refusal(out: &mut [u8], n: u64) -> usize
     requires { ⌜ 131 ≤ length (now out) ⌝ }
     ensures { λ r. ⌜ (r ≡ length (spec.refusalLine n)) × (r ≤ 131) ⌝ }
     ensures { λ _. ⌜ now (out .exit) ≡ put (spec.refusalLine n) (now (out .entry)) ⌝ }
 {
     bytes::copy(b"refused ", out);
     8 + put_decimal(&mut out[8..], n, b'\n')
-}
-
-// The line of a refusal.
-pub fn refusal_line(refusal: Refusal) -> Line
-    ensures { λ r. ⌜ r ≡ spec.held (spec.refusalLine (numberOf refusal)) ⌝ }
-{
-    let mut bytes = [0u8; 131];
-    let len = put_refusal(&mut bytes, refusal.number());
-    Line { bytes, len }
 }

@@ -5,8 +5,8 @@ use mathlib.Core.List.{[]}
 use lib.ListN.{length}
 use Rattle.message.specs.Bound.{prefix}
 use Rattle.message.specs.Code.{boundOf, payloadOf}
-use Rattle.text.specs.Text.{timeField, prefixField}
-use Rattle.text.specs.Private.{put, spaced, payloadFields}
+use Rattle.text.specs.Text.{timeField, prefixField, put}
+use Rattle.text.specs.Private.{spaced, payloadFields}
 use Rattle.text.proofs.Putting.{rest, prefix-short, line-is, three-put, length-put, length-part}
 use borrow.Author.Needs.{needs}
 use Rattle.text.proofs.put_line.Statement.{statement}

@@ -5,8 +5,7 @@ use Prim.Native.Nat.{_-_, _≤_}
 use mathlib.Core.List.{List}
 use lib.ListN.{length, take, length-set}
 use lib.Seq.{length-take-le, take-length}
-use Rattle.text.specs.Text.{hex}
-use Rattle.text.specs.Private.{put}
+use Rattle.text.specs.Text.{hex, put}
 use Rattle.text.proofs.Putting.{hex-step, put-none}
 use Rattle.text.proofs.put_pairs.Statement.{statement}
 use Rattle.text.proofs.put_pairs.Tie as tie

@@ -1,8 +1,8 @@
 -- `text::put_payload` meets its contract.
 use mathlib.Core.Path.{refl}
 use native.Mathlib.Omega.{arith}
-use Rattle.text.specs.Text.{payloadField}
-use Rattle.text.specs.Private.{put, payloadFields}
+use Rattle.text.specs.Text.{payloadField, put}
+use Rattle.text.specs.Private.{payloadFields}
 use borrow.Author.Needs.{needs}
 use Rattle.text.proofs.put_payload.Statement.{statement}
 use Rattle.text.proofs.put_payload.Tie as tie

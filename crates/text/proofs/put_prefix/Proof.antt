@@ -1,7 +1,7 @@
 -- `text::put_prefix` meets its contract.
 use mathlib.Core.Path.{refl}
 use native.Mathlib.Omega.{arith}
-use Rattle.text.specs.Private.{put}
+use Rattle.text.specs.Text.{put}
 use Rattle.text.proofs.Putting.{no-prefix, some-prefix}
 use borrow.Author.Needs.{needs}
 use Rattle.text.proofs.put_prefix.Statement.{statement}

@@ -1,8 +1,8 @@
 -- `text::put_time` meets its contract.
 use mathlib.Core.Path.{refl}
 use native.Mathlib.Omega.{arith}
-use Rattle.text.specs.Text.{timeField}
-use Rattle.text.specs.Private.{put, spaced}
+use Rattle.text.specs.Text.{timeField, put}
+use Rattle.text.specs.Private.{spaced}
 use borrow.Author.Needs.{needs}
 use Rattle.text.proofs.put_time.Statement.{statement}
 use Rattle.text.proofs.put_time.Tie as tie

@@ -2,7 +2,7 @@
 use mathlib.Core.Path.{_≡_, refl, sym, ap, _∙_}
 use mathlib.Core.Logic.{_⊎_, inl, inr}
 use mathlib.Core.List.{List, [], _∷_, _++_, flatten, zipWith, List·Memᴰ, List·Memᴰ·head, List·Memᴰ·cases-cons, List·Memᴰ·eq-of-singleton}
-use Prim.Native.Nat.{ℕ}
+use Prim.Native.Nat.{ℕ, _≤_}
 use native.Mathlib.Omega.{arith}
 use lib.ListN.{replicate, getD}
 use Rattle.message.specs.Reader.{readBytes}
@@ -11,17 +11,18 @@ use Rattle.message.specs.Code.{idsIn}
 use Rattle.message.specs.Bound.{bigEndian, idSpace, key, readPrefix, readCoded, readBound, spellPrefix, spellBound}
 use Rattle.message.specs.Message.{readIds, readOfMode, readPayload, readRange, readRanges, readMessage, spellPayload, spellRange, spellRanges, spellMessage}
 use Rattle.message.specs.Meaning.{isSkip, prepend, tidy, writeMessage}
+use Rattle.theory.specs.Rounds.{Cut}
 use Rattle.table.specs.Answer.{Answer, answer, refused}
 use Rattle.table.specs.Lists.{keep, every, rising}
-use Rattle.table.specs.Table.{Item, keyOf, items, wrongSize, notRising, within}
+use Rattle.table.specs.Table.{Item, Table, keyOf, items, wrongSize, notRising, within}
 use Rattle.cutting.specs.Cutting.{outsideLimits, cut}
 use Rattle.ends.specs.Lists.{some, same, overwrite}
 use Rattle.ends.specs.Calls.{eachRange}
 use Rattle.ends.specs.Responder as responder
 use Rattle.ends.specs.Responder.{treat, answered}
-use Rattle.ends.specs.Opener.{wrongBuffers, wrongContents, firstQuery, openingLeaves, begin, opened, nextQuery, written, unlisted, marksAfter, unowned, insert, neededAfter, takeLeaves, conclude, taken}
-use Rattle.ends.specs.Demand.{Answers, OneTime}
-use Rattle.ends.specs.Instance.{starting, ours, theirs, two, lent, query, reply, takes, Asked, Done}
+use Rattle.ends.specs.Opener.{Lent, wrongBuffers, wrongContents, firstQuery, openingLeaves, begin, opened, nextQuery, written, unlisted, marksAfter, unowned, insert, neededAfter, takeLeaves, conclude, taken}
+use Rattle.ends.specs.Demand.{Take, opening, Answers, InRow, unrefused, Throughout, OneTime}
+use Rattle.ends.specs.Instance.{starting, ours, theirs, two, lent, query, reply, takes, Asked, AskedHere, Done}
 use Rattle.ends.proofs.Demand.{demand3}
 
 -- the two ids differ
@@ -37,8 +38,10 @@ one-time i j mi mj e = by (List·Memᴰ·cases-cons mi) (List·Memᴰ·cases-con
   where
     id-of : {i j : Item} → i ≡ j → i .id ≡ j .id
     id-of = ap (λ (i : Item). i .id)
+
     time-of : {i j : Item} → i ≡ j → i .time ≡ j .time
     time-of = ap (λ (i : Item). i .time)
+
     by : Either i → Either j → i .time ≡ j .time
     by (inl p) (inl q) = time-of (p ∙ sym q)
     by (inl p) (inr q) = two-ids (sym (id-of p) ∙ e ∙ id-of (List·Memᴰ·eq-of-singleton q))
@@ -48,22 +51,35 @@ one-time i j mi mj e = by (List·Memᴰ·cases-cons mi) (List·Memᴰ·cases-con
 not-both : {C : Type 0} {k n : ℕ} → _≡_ {A = Answer ℕ} (refused k) (answer n) → C
 not-both e = let z : _≡_ {A = ℕ} 0 1 = cc in absurd (omega arith)
 
-pub asked : Asked
+-- what the takes meet, and that they are a row
+record Met : Type 0 where
+  asked : AskedHere
+  row : InRow ours theirs two two (opening ours two lent) takes
+  enough : 1 ≤ unrefused ours theirs two two (opening ours two lent) takes
+
+met : Met
 unfolding readMessage readRanges readRange readBound readCoded readPrefix readPayload readOfMode readIds readVarint readDigits readBytes key bigEndian idSpace writeMessage tidy prepend isSkip spellMessage spellRanges spellRange spellBound spellPrefix spellPayload spellVarint digitsBefore flatten cut items idsIn zipWith keep every rising keyOf wrongSize notRising within outsideLimits some same overwrite eachRange treat responder.reply answered wrongBuffers wrongContents firstQuery openingLeaves begin opened nextQuery written unlisted marksAfter unowned insert neededAfter takeLeaves conclude taken
-asked =
+met =
     let answers : Answers ours theirs two two query reply = record { out = replicate 37 0; size = 37; unrefused = refl; written = refl } in
     record {
-      ours-bytes = omega arith;
-      theirs-bytes = omega arith;
-      once = one-time;
-      smallest = record { enough = omega arith; least = λ k h. omega arith };
-      opens = refl;
-      handed = (λ n e. not-both e, (λ n e. not-both e, (λ n e. (List·Memᴰ·head refl, answers), tt)));
+      asked = record {
+        ours-bytes = omega arith;
+        theirs-bytes = omega arith;
+        once = one-time;
+        smallest = record { enough = omega arith; least = λ k h. omega arith };
+        opens = refl;
+        handed = (λ n e. not-both e, (λ n e. not-both e, (λ n e. (List·Memᴰ·head refl, answers), tt)));
+      };
       row = (λ n e. not-both e, (λ n e. not-both e, (λ n e. ([], refl), tt)));
       enough = omega arith;
     }
 
+pub asked : AskedHere
+asked = met .asked
+
+pub owed : {A B : Table} {a b : Cut} {L : ℕ} {lent : Lent} {n : ℕ} {takes : List Take} → Asked A B a b L lent n takes → Throughout A B a b L (opening A a lent) takes
+owed {A} {B} {a} {b} {L} {lent} {n} {takes} h =
+    demand3 A B a b (h .ours-bytes) (h .theirs-bytes) (h .once) L (h .smallest) lent n (h .opens) takes (h .handed)
+
 pub done : Done
-done =
-    demand3 ours theirs two two (asked .ours-bytes) (asked .theirs-bytes) (asked .once) 0 (asked .smallest) lent 37 (asked .opens) takes (asked .handed)
-    .0 .ends takes [] refl (asked .row) (asked .enough)
+done = owed asked .0 .ends takes [] refl (met .row) (met .enough)

@@ -1,15 +1,26 @@
--- A list of takes on bytes that meets all that `Demand3` asks for: one item against another, lists of at most two ids.
+-- What `Demand3` asks for, and a list of takes on bytes that meets it: one item against another, lists of at most two ids.
 use mathlib.Core.Path.{_≡_}
 use mathlib.Core.Bool.{true, false}
 use mathlib.Core.List.{List, [], _∷_, _++_}
-use Prim.Native.Nat.{ℕ, _≤_}
+use Prim.Native.Nat.{ℕ}
 use lib.ListN.{length, replicate}
 use Rattle.message.specs.WellFormed.{Bytes}
 use Rattle.theory.specs.Rounds.{Cut}
 use Rattle.table.specs.Answer.{answer}
 use Rattle.table.specs.Table.{Table, items}
 use Rattle.ends.specs.Opener.{Lent, opened}
-use Rattle.ends.specs.Demand.{Take, opening, run, HandedAnswers, InRow, unrefused, OneTime, Smallest}
+use Rattle.ends.specs.Demand.{Take, opening, run, HandedAnswers, OneTime, Smallest}
+
+-- What `Demand3` asks of two tables and cuts, of L, of an opening that writes n bytes, and of the takes after it.
+pub record Asked (A B : Table) (a b : Cut) (L : ℕ) (lent : Lent) (n : ℕ) (takes : List Take) : Type 0 where
+  pub ours-bytes : Bytes (A .ids)
+  pub theirs-bytes : Bytes (B .ids)
+  pub once : OneTime (items A ++ items B)
+  pub smallest : Smallest a (length (A .times)) L
+  pub opens : opened A a lent .answer ≡ answer n
+  pub handed : HandedAnswers A B a b (opening A a lent) takes
+
+-- ---- the list
 
 -- the id that starts with the byte b, all others being zero
 abbrev pub starting : ℕ → List ℕ
@@ -43,18 +54,9 @@ takes =
     ∷ record { query = query; reply = reply; out = []; behind = replicate 32 0xCC }
     ∷ []
 
--- what `Demand3` asks of tables, opening and takes, L being 0
-pub record Asked : Type 0 where
-  pub ours-bytes : Bytes (ours .ids)
-  pub theirs-bytes : Bytes (theirs .ids)
-  pub once : OneTime (items ours ++ items theirs)
-  pub smallest : Smallest two (length (ours .times)) 0
-  pub opens : opened ours two lent .answer ≡ answer (length query)
-  pub handed : HandedAnswers ours theirs two two (opening ours two lent) takes
-  -- the takes stand in a row, and one of them is not refused
-  pub row : InRow ours theirs two two (opening ours two lent) takes
-  pub enough : 1 ≤ unrefused ours theirs two two (opening ours two lent) takes
+abbrev pub AskedHere : Type 0
+AskedHere = Asked ours theirs two two 0 lent (length query) takes
 
--- and what comes of it
+-- L + 1 unrefused takes stand in a row, so that the session is done
 abbrev pub Done : Type 0
 Done = run ours theirs two two (opening ours two lent) takes .session .done ≡ true

@@ -22,13 +22,13 @@ use Rattle.cutting.specs.Cutting.{fingerprintOf, shared, shortest, outsideLimit
 use Rattle.ends.specs.Lists.{some, same, overwrite}
 use Rattle.ends.specs.Calls.{Result, eachRange}
 use Rattle.ends.specs.Responder.{compare, treat, reply, answered}
-use Rattle.ends.specs.Opener.{Lent, wrongBuffers, wrongContents, firstQuery, begin, opened, nextQuery, written, unlisted, marksAfter, unowned, insert, neededAfter, conclude, taken}
+use Rattle.ends.specs.Opener.{Lent, wrongBuffers, wrongContents, firstQuery, openingLeaves, begin, opened, nextQuery, written, unlisted, marksAfter, unowned, insert, neededAfter, takeLeaves, conclude, taken}
 use Rattle.examples.specs.Table.{Varint, varints, Refused, refusals, Message, messages, merged, Neighbours, neighbours, Division, divisions, Opening, openings, Answering, answers, Taking, takes, Labelled, labels}
 
 -- an out buffer of just the size that is needed, and marks that are to become 0
 abbrev beforeOpening : Opening → Lent
 beforeOpening e = record {
-  session = record { marked = 0; needed = 0; done = true };
+  session = record { marked = 0; needed = 0; done = false };
   marks = replicate (length (e .table .times)) 0xEE;
   needed = [];
   out = replicate (e .size) 0xEE;
@@ -78,5 +78,5 @@ pub table :
     × (map (λ (e : Taking). taken (e .table) (e .cut) (e .reply) (beforeTake e)) takes ≡ map afterTake takes)
     × (map (λ (e : Labelled). labelOf (e .ids)) labels ≡ map (λ (e : Labelled). e .label) labels)
     × (map (λ (e : Labelled). hashed (e .label)) labels ≡ map (λ (e : Labelled). e .hashed) labels)
-unfolding readMessage readRanges readRange readBound readCoded readPrefix readPayload readOfMode readIds readVarint readDigits readBytes key bigEndian idSpace writeMessage tidy prepend isSkip spellMessage spellRanges spellRange spellBound spellPrefix spellPayload spellVarint digitsBefore flatten sizes split shared shortest innerBound fingerprintRanges cut items idsIn zipWith littleEndian total labelOf lowBytes hashed fingerprintOf L.fingerprint digest keep every rising keyOf wrongSize notRising within outsideLimits some same overwrite eachRange compare treat reply answered wrongBuffers wrongContents firstQuery begin opened nextQuery written unlisted marksAfter unowned insert neededAfter conclude taken
+unfolding readMessage readRanges readRange readBound readCoded readPrefix readPayload readOfMode readIds readVarint readDigits readBytes key bigEndian idSpace writeMessage tidy prepend isSkip spellMessage spellRanges spellRange spellBound spellPrefix spellPayload spellVarint digitsBefore flatten sizes split shared shortest innerBound fingerprintRanges cut items idsIn zipWith littleEndian total labelOf lowBytes hashed fingerprintOf L.fingerprint digest keep every rising keyOf wrongSize notRising within outsideLimits some same overwrite eachRange compare treat reply answered wrongBuffers wrongContents firstQuery openingLeaves begin opened nextQuery written unlisted marksAfter unowned insert neededAfter takeLeaves conclude taken
 table = (refl, refl, refl, refl, refl, refl, refl, refl, refl, refl, refl, refl, refl)

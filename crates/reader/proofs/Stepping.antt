@@ -1,7 +1,7 @@
 -- Stepping through a message: where the ranges left can be read, so can the first of them, and the others behind it.
 use Prim.Native.Nat.{ℕ, zero, suc, _-_, _≤_, _<_}
 use mathlib.Core.Path.{_≡_, refl, sym, ap, _∙_}
-use mathlib.Core.List.{List, [], _∷_, _++_, map}
+use mathlib.Core.List.{List, [], _∷_, map}
 use native.Mathlib.Omega.{arith}
 use lib.Dec.{eqb, ltb}
 use lib.ListN.{length, take, drop, length-drop, drop-of-length-le}
@@ -133,16 +133,13 @@ next-range m c r bytes inside whole answer = next-of m c bytes inside whole r an
 
 -- ---- the first range, and the end
 
--- a message that `check_message` has passed, and the number of ranges that it told
+-- a message that `check_message` has passed
 pub message-read : (m : List ℕ) (n : ℕ) → read n [] ≡ counted (readMessage m) → (rs : List Range) × (readMessage m ≡ read rs [])
 message-read m n e = by (readMessage m) refl e
   where
     by : (o : Outcome (List Range)) → readMessage m ≡ o → read n [] ≡ counted o → (rs : List Range) × (readMessage m ≡ read rs [])
     by (read rs rest) f g = let z : rest ≡ [] = given (λ (a : ℕ) (b : List ℕ). rest ≡ b) (sym g) refl in (rs, f ∙ ap (read rs) z)
     by (refused k) f g = differ (cc)
-
-pub message-count : (m : List ℕ) (n : ℕ) (rs : List Range) → read n [] ≡ counted (readMessage m) → readMessage m ≡ read rs [] → n ≡ length rs
-message-count m n rs e f = given (λ (a : ℕ) (b : List ℕ). n ≡ a) (e ∙ ap counted f) refl
 
 pub lower-starts : lowerAt starts ≡ start
 unfolding starts
@@ -223,9 +220,3 @@ stepping m ranges bytes e reads turn few =
       ends = λ all. at-end m c bytes (g .whole) (g .inside) (omega arith);
       goes-on = λ more. before-end m c (omega arith);
     }
-
--- for a loop: one read more, where those before left the cursor
-pub in-turn-more : (m : List ℕ) (c : RangeCursor) (reads : List RangeRead) (r : RangeRead) → InTurn m c reads → ReadAt m (leftAt c reads) r
-    → InTurn m c (reads ++ (r ∷ [])) × (leftAt c (reads ++ (r ∷ [])) ≡ r .next)
-in-turn-more m c [] r turn one = ((one, tt), refl)
-in-turn-more m c (x ∷ reads) r turn one = let h = in-turn-more m (x .next) reads r (turn .1) one in ((turn .0, h .0), h .1)

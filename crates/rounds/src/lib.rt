@@ -1,0 +1,1 @@
+// A session on bytes, computed by the checker: definitions and proofs alone.

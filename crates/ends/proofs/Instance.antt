@@ -1,15 +1,15 @@
--- All that `Demand3` asks for can be met together, on bytes.
+-- All that `Demand3` and `WhoeverOpens` ask for can be met, on bytes.
 use mathlib.Core.Path.{_≡_, refl, sym, ap, _∙_}
-use mathlib.Core.Logic.{_⊎_, inl, inr}
+use mathlib.Core.Logic.{_⊎_, _↔_, inl, inr, ⊎-elim}
 use mathlib.Core.List.{List, [], _∷_, _++_, flatten, zipWith, List·Memᴰ, List·Memᴰ·head, List·Memᴰ·cases-cons, List·Memᴰ·eq-of-singleton}
 use Prim.Native.Nat.{ℕ, _≤_}
 use native.Mathlib.Omega.{arith}
 use lib.ListN.{replicate, getD}
-use Rattle.message.specs.Reader.{readBytes}
+use Rattle.message.specs.Reader.{Outcome, read, readBytes}
 use Rattle.message.specs.Varint.{readDigits, readVarint, digitsBefore, spellVarint}
 use Rattle.message.specs.Code.{idsIn}
-use Rattle.message.specs.Bound.{bigEndian, idSpace, key, readPrefix, readCoded, readBound, spellPrefix, spellBound}
-use Rattle.message.specs.Message.{readIds, readOfMode, readPayload, readRange, readRanges, readMessage, spellPayload, spellRange, spellRanges, spellMessage}
+use Rattle.message.specs.Bound.{Bound, infinity, start, bigEndian, idSpace, key, readPrefix, readCoded, readBound, spellPrefix, spellBound}
+use Rattle.message.specs.Message.{Payload, fingerprint, ids, Range, range, readIds, readOfMode, readPayload, readRange, readRanges, readMessage, spellPayload, spellRange, spellRanges, spellMessage}
 use Rattle.message.specs.Meaning.{isSkip, prepend, tidy, writeMessage}
 use Rattle.theory.specs.Rounds.{Cut}
 use Rattle.table.specs.Answer.{Answer, answer, refused}
@@ -21,9 +21,11 @@ use Rattle.ends.specs.Calls.{eachRange}
 use Rattle.ends.specs.Responder as responder
 use Rattle.ends.specs.Responder.{treat, answered}
 use Rattle.ends.specs.Opener.{Lent, wrongBuffers, wrongContents, firstQuery, openingLeaves, begin, opened, nextQuery, written, unlisted, marksAfter, unowned, insert, neededAfter, takeLeaves, conclude, taken}
-use Rattle.ends.specs.Demand.{Take, opening, Answers, InRow, unrefused, Throughout, OneTime}
-use Rattle.ends.specs.Instance.{starting, ours, theirs, two, lent, query, reply, takes, Asked, AskedHere, Done}
+use Rattle.ends.specs.Demand.{Take, Place, opening, Fingerprinted, ReportsOurs, ReportsTheirs, Answers, HandedAnswers, InRow, unrefused, Throughout, OneTime}
+use Rattle.ends.specs.Finished.{end, NoneCollides}
+use Rattle.ends.specs.Instance.{starting, ours, theirs, two, lent, query, reply, takes, Asked, AskedHere, Done, takesBack, AskedBothHere}
 use Rattle.ends.proofs.Demand.{demand3}
+use Rattle.ends.proofs.Finished.{whoever-opens}
 
 -- the two ids differ
 two-ids : {C : Type 0} → starting 0x01 ≡ starting 0x02 → C
@@ -51,16 +53,45 @@ one-time i j mi mj e = by (List·Memᴰ·cases-cons mi) (List·Memᴰ·cases-con
 not-both : {C : Type 0} {k n : ℕ} → _≡_ {A = Answer ℕ} (refused k) (answer n) → C
 not-both e = let z : _≡_ {A = ℕ} 0 1 = cc in absurd (omega arith)
 
+-- ---- no range with a fingerprint
+
+-- a message of one range, with ids
+abbrev Lists : List ℕ → Type 0
+Lists m = (l : List (List ℕ)) × (readMessage m ≡ read (range infinity (ids l) ∷ []) [])
+
+no-fingerprint : {m : List ℕ} {x y : Bound} → Lists m → Fingerprinted m x y → ⊥
+unfolding eachRange
+no-fingerprint {x = x} {y = y} h f =
+    let z : _≡_ {A = Outcome (List Range)} (read (f .ranges) []) (read (range infinity (ids (h .0)) ∷ []) []) = sym (f .says) ∙ h .1 in
+    let one : f .ranges ≡ range infinity (ids (h .0)) ∷ [] = cc in
+    let p : _≡_ {A = Bound × Bound × Payload} (x, y, fingerprint (f .bytes)) (start, infinity, ids (h .0)) = List·Memᴰ·eq-of-singleton (rw one at (f .stands)) in
+    let q : _≡_ {A = Payload} (fingerprint (f .bytes)) (ids (h .0)) = ap (λ (w : Bound × Bound × Payload). w .2) p in
+    let n : _≡_ {A = ℕ} 0 1 = cc in omega arith
+
+none-collides : (A B : Table) (p : Place) (q r : List ℕ) → p .handed ≡ (q, r) ∷ [] → Lists q → Lists r → NoneCollides A B p
+none-collides A B p q r h lq lr i c =
+    let k = c .compared in
+    let e : _≡_ {A = List ℕ × List ℕ} (k .query, k .reply) (q, r) = List·Memᴰ·eq-of-singleton (rw h at (k .handed)) in
+    ⊎-elim
+    (λ f. no-fingerprint lq (rw (ap (λ (w : List ℕ × List ℕ). w .0) e) at f)) (λ f. no-fingerprint lr (rw (ap (λ (w : List ℕ × List ℕ). w .1) e) at f))
+    (k .stands)
+
+-- ---- computed
+
 -- what the takes meet, and that they are a row
 record Met : Type 0 where
   asked : AskedHere
   row : InRow ours theirs two two (opening ours two lent) takes
   enough : 1 ≤ unrefused ours theirs two two (opening ours two lent) takes
+  both : AskedBothHere
 
 met : Met
 unfolding readMessage readRanges readRange readBound readCoded readPrefix readPayload readOfMode readIds readVarint readDigits readBytes key bigEndian idSpace writeMessage tidy prepend isSkip spellMessage spellRanges spellRange spellBound spellPrefix spellPayload spellVarint digitsBefore flatten cut items idsIn zipWith keep every rising keyOf wrongSize notRising within outsideLimits some same overwrite eachRange treat responder.reply answered wrongBuffers wrongContents firstQuery openingLeaves begin opened nextQuery written unlisted marksAfter unowned insert neededAfter takeLeaves conclude taken
 met =
     let answers : Answers ours theirs two two query reply = record { out = replicate 37 0; size = 37; unrefused = refl; written = refl } in
+    let answers-back : Answers theirs ours two two reply query = record { out = replicate 37 0; size = 37; unrefused = refl; written = refl } in
+    let handed : HandedAnswers ours theirs two two (opening ours two lent) takes =
+    (λ n e. not-both e, (λ n e. not-both e, (λ n e. (List·Memᴰ·head refl, answers), tt))) in
     record {
       asked = record {
         ours-bytes = omega arith;
@@ -68,10 +99,20 @@ met =
         once = one-time;
         smallest = record { enough = omega arith; least = λ k h. omega arith };
         opens = refl;
-        handed = (λ n e. not-both e, (λ n e. not-both e, (λ n e. (List·Memᴰ·head refl, answers), tt)));
+        handed = handed;
       };
       row = (λ n e. not-both e, (λ n e. not-both e, (λ n e. ([], refl), tt)));
       enough = omega arith;
+      both = (
+        record {
+          forth = record { lent = lent; size = 37; opens = refl; takes = takes; handed = handed; done = refl };
+          back = record { lent = lent; size = 37; opens = refl; takes = takesBack; handed = (λ n e. (List·Memᴰ·head refl, answers-back), tt); done = refl };
+          none-forth = none-collides ours theirs _ query reply refl (starting 0x01 ∷ [], refl) (starting 0x02 ∷ [], refl);
+          none-back = none-collides theirs ours _ reply query refl (starting 0x02 ∷ [], refl) (starting 0x01 ∷ [], refl);
+        },
+        refl,
+        refl,
+      );
     }
 
 pub asked : AskedHere
@@ -83,3 +124,15 @@ owed {A} {B} {a} {b} {L} {lent} {n} {takes} h =
 
 pub done : Done
 done = owed asked .0 .ends takes [] refl (met .row) (met .enough)
+
+pub asked-both : AskedBothHere
+asked-both = met .both
+
+-- the same two ids either way, exchanged
+pub both-report : (d : List ℕ)
+    → let s = asked-both .0 .forth in let z = asked-both .0 .back in
+    (ReportsOurs ours (end ours theirs two two s) d ↔ ReportsTheirs (end theirs ours two two z) d)
+    × (ReportsTheirs (end ours theirs two two s) d ↔ ReportsOurs theirs (end theirs ours two two z) d)
+both-report d =
+    let b = asked-both .0 in
+    whoever-opens ours theirs two two two two (asked .ours-bytes) (asked .theirs-bytes) (asked .once) (b .forth) (b .back) (b .none-forth) (b .none-back) d

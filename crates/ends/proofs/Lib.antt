@@ -11,8 +11,8 @@
 -- Takes       the theorem about lists of takes that differ in kind: `reported`, `owed-at`
 -- Own         the calls of the two ends meet the relations
 -- Demand      the theorem for takes that are all alike, `demand3`
--- Instance    all that `Demand3` asks for, met by one list of takes on bytes
 -- Finished    what finished sessions report, `whoever-opens`
+-- Instance    all that `Demand3` and `WhoeverOpens` ask for, met on bytes
 -- Replies     lawful replies of any kind, `true-and-complete`
 pub mod Lists
 pub mod Tables
@@ -29,6 +29,6 @@ pub mod Owed
 pub mod Takes
 pub mod Own
 pub mod Demand
-pub mod Instance
 pub mod Finished
+pub mod Instance
 pub mod Replies

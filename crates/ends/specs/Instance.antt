@@ -1,4 +1,4 @@
--- What `Demand3` asks for, and a list of takes on bytes that meets it: one item against another, lists of at most two ids.
+-- What `Demand3` and `WhoeverOpens` ask for, and lists of takes on bytes that meet it: one item against another, lists of at most two ids.
 use mathlib.Core.Path.{_≡_}
 use mathlib.Core.Bool.{true, false}
 use mathlib.Core.List.{List, [], _∷_, _++_}
@@ -9,6 +9,7 @@ use Rattle.theory.specs.Rounds.{Cut}
 use Rattle.table.specs.Answer.{answer}
 use Rattle.table.specs.Table.{Table, items}
 use Rattle.ends.specs.Opener.{Lent, opened}
+use Rattle.ends.specs.Finished.{Finished, end, NoneCollides}
 use Rattle.ends.specs.Demand.{Take, opening, run, HandedAnswers, OneTime, Smallest}
 
 -- What `Demand3` asks of two tables and cuts, of L, of an opening that writes n bytes, and of the takes after it.
@@ -60,3 +61,19 @@ AskedHere = Asked ours theirs two two 0 lent (length query) takes
 -- L + 1 unrefused takes stand in a row, so that the session is done
 abbrev pub Done : Type 0
 Done = run ours theirs two two (opening ours two lent) takes .session .done ≡ true
+
+-- ---- opened from either end
+
+-- The other end opens: what was the reply is its first query, and what was the query is the answer.
+abbrev pub takesBack : List Take
+takesBack = record { query = reply; reply = query; out = []; behind = replicate 32 0xCC } ∷ []
+
+-- what `WhoeverOpens` asks of two sessions
+pub record AskedBoth (A B : Table) (a b c d : Cut) : Type 0 where
+  pub forth : Finished A B a b
+  pub back : Finished B A c d
+  pub none-forth : NoneCollides A B (end A B a b forth)
+  pub none-back : NoneCollides B A (end B A c d back)
+
+abbrev pub AskedBothHere : Type 0
+AskedBothHere = (both : AskedBoth ours theirs two two two two) × (both .forth .takes ≡ takes) × (both .back .takes ≡ takesBack)

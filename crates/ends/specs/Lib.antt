@@ -5,9 +5,9 @@
 -- Opener     Open and Take
 -- Passing    what an unrefused call leaves passes check 4: `OpeningPasses`, `TakePasses`
 -- Demand     what holds of every list of takes after one opening, two ends keeping to their tables and cuts: `Demand3`
--- Instance   a list of takes on bytes of which `Demand3` speaks
 -- Takes      lists of takes that differ in kind from each other, and what is owed of them: the words of the one theorem (proofs/Takes.antt)
 -- Finished   two finished sessions, opened from either end: `WhoeverOpens`
+-- Instance   lists of takes on bytes of which `Demand3` and `WhoeverOpens` speak
 -- Replies    sessions with replies of any kind: `TrueAndComplete`
 pub mod Lists
 pub mod Calls
@@ -15,7 +15,7 @@ pub mod Responder
 pub mod Opener
 pub mod Passing
 pub mod Demand
-pub mod Instance
 pub mod Takes
 pub mod Finished
+pub mod Instance
 pub mod Replies

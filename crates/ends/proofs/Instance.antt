@@ -1,4 +1,4 @@
--- All that `Demand3` and `WhoeverOpens` ask for can be met, on bytes.
+-- All that `Demand3`, `WhoeverOpens` and `TrueAndComplete` ask for can be met, on bytes.
 use mathlib.Core.Path.{_≡_, refl, sym, ap, _∙_}
 use mathlib.Core.Logic.{_⊎_, _↔_, inl, inr, ⊎-elim}
 use mathlib.Core.List.{List, [], _∷_, _++_, flatten, zipWith, List·Memᴰ, List·Memᴰ·head, List·Memᴰ·cases-cons, List·Memᴰ·eq-of-singleton}
@@ -21,11 +21,16 @@ use Rattle.ends.specs.Calls.{eachRange}
 use Rattle.ends.specs.Responder as responder
 use Rattle.ends.specs.Responder.{treat, answered}
 use Rattle.ends.specs.Opener.{Lent, wrongBuffers, wrongContents, firstQuery, openingLeaves, begin, opened, nextQuery, written, unlisted, marksAfter, unowned, insert, neededAfter, takeLeaves, conclude, taken}
-use Rattle.ends.specs.Demand.{Take, Place, opening, Fingerprinted, ReportsOurs, ReportsTheirs, Answers, HandedAnswers, InRow, unrefused, Throughout, OneTime}
+use Rattle.ends.specs.Demand.{Take, Place, opening, Fingerprinted, ReportsOurs, ReportsTheirs, Reported, Answers, HandedAnswers, InRow, unrefused, Throughout, OneTime}
+use Rattle.ends.specs.Takes.{none, then-refused, then-taken}
 use Rattle.ends.specs.Finished.{end, NoneCollides}
-use Rattle.ends.specs.Instance.{starting, ours, theirs, two, lent, query, reply, takes, Asked, AskedHere, Done, takesBack, AskedBothHere}
+use Rattle.ends.specs.Instance.{starting, ours, theirs, two, lent, query, reply, take₁, take₂, take₃, takes, Asked, AskedHere, Done, takesBack, AskedBothHere, OwnAnswer, RunHere}
 use Rattle.ends.proofs.Demand.{demand3}
 use Rattle.ends.proofs.Finished.{whoever-opens}
+use Rattle.ends.proofs.Tables.{kept}
+use Rattle.ends.proofs.Calls.{Checked, answer-checks}
+use Rattle.ends.proofs.Own.{answer-replied}
+use Rattle.ends.proofs.Replies.{LawfulReplies, true-and-complete}
 
 -- the two ids differ
 two-ids : {C : Type 0} → starting 0x01 ≡ starting 0x02 → C
@@ -84,14 +89,16 @@ record Met : Type 0 where
   row : InRow ours theirs two two (opening ours two lent) takes
   enough : 1 ≤ unrefused ours theirs two two (opening ours two lent) takes
   both : AskedBothHere
+  mixed : RunHere
 
 met : Met
 unfolding readMessage readRanges readRange readBound readCoded readPrefix readPayload readOfMode readIds readVarint readDigits readBytes key bigEndian idSpace writeMessage tidy prepend isSkip spellMessage spellRanges spellRange spellBound spellPrefix spellPayload spellVarint digitsBefore flatten cut items idsIn zipWith keep every rising keyOf wrongSize notRising within outsideLimits some same overwrite eachRange treat responder.reply answered wrongBuffers wrongContents firstQuery openingLeaves begin opened nextQuery written unlisted marksAfter unowned insert neededAfter takeLeaves conclude taken
 met =
     let answers : Answers ours theirs two two query reply = record { out = replicate 37 0; size = 37; unrefused = refl; written = refl } in
     let answers-back : Answers theirs ours two two reply query = record { out = replicate 37 0; size = 37; unrefused = refl; written = refl } in
+    let sent-and-answered : List·Memᴰ query (query ∷ []) × Answers ours theirs two two query reply = (List·Memᴰ·head refl, answers) in
     let handed : HandedAnswers ours theirs two two (opening ours two lent) takes =
-    (λ n e. not-both e, (λ n e. not-both e, (λ n e. (List·Memᴰ·head refl, answers), tt))) in
+    (λ n e. not-both e, (λ n e. not-both e, (λ n e. sent-and-answered, tt))) in
     record {
       asked = record {
         ours-bytes = omega arith;
@@ -113,6 +120,7 @@ met =
         refl,
         refl,
       );
+      mixed = (_, then-taken (then-refused (then-refused none take₁ 6 refl) take₂ 11 refl) take₃ 0 refl (List·Memᴰ·head refl) (two, answers), refl);
     }
 
 pub asked : AskedHere
@@ -136,3 +144,24 @@ pub both-report : (d : List ℕ)
 both-report d =
     let b = asked-both .0 in
     whoever-opens ours theirs two two two two (asked .ours-bytes) (asked .theirs-bytes) (asked .once) (b .forth) (b .back) (b .none-forth) (b .none-back) d
+
+-- ---- replies of any kind
+
+own-lawful : LawfulReplies OwnAnswer
+own-lawful = record {
+  sized = λ B q r h. checks B q r h .size;
+  rising = λ B q r h. checks B q r h .order;
+  replied = λ B q r by h w. let c = checks B q r h in
+      answer-replied B (h .0) (kept B (h .0) by (c .size) (c .order) (c .limits)) q r (h .1 .out) (h .1 .size) (h .1 .unrefused) (h .1 .written) w;
+}
+  where
+    checks : (B : Table) (q r : List ℕ) (h : OwnAnswer B q r) → Checked B (h .0)
+    checks B q r h = answer-checks B (h .0) q (h .1 .out) (h .1 .size) (h .1 .unrefused)
+
+pub run-here : RunHere
+run-here = met .mixed
+
+-- what is reported there is true and complete
+pub reported-here : Reported ours theirs (run-here .0)
+reported-here =
+    true-and-complete OwnAnswer own-lawful ours theirs two (asked .ours-bytes) (asked .theirs-bytes) (asked .once) lent 37 (asked .opens) (run-here .0) (run-here .1)

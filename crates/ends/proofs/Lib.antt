@@ -12,8 +12,8 @@
 -- Own         the calls of the two ends meet the relations
 -- Demand      the theorem for takes that are all alike, `demand3`
 -- Finished    what finished sessions report, `whoever-opens`
--- Instance    all that `Demand3` and `WhoeverOpens` ask for, met on bytes
 -- Replies     lawful replies of any kind, `true-and-complete`
+-- Instance    all that `Demand3`, `WhoeverOpens` and `TrueAndComplete` ask for, met on bytes
 pub mod Lists
 pub mod Tables
 pub mod Ranges
@@ -30,5 +30,5 @@ pub mod Takes
 pub mod Own
 pub mod Demand
 pub mod Finished
-pub mod Instance
 pub mod Replies
+pub mod Instance

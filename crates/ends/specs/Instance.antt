@@ -1,4 +1,4 @@
--- What `Demand3` and `WhoeverOpens` ask for, and lists of takes on bytes that meet it: one item against another, lists of at most two ids.
+-- What `Demand3`, `WhoeverOpens` and `TrueAndComplete` ask for, and lists of takes on bytes that meet it: one item against another, lists of at most two ids.
 use mathlib.Core.Path.{_≡_}
 use mathlib.Core.Bool.{true, false}
 use mathlib.Core.List.{List, [], _∷_, _++_}
@@ -8,9 +8,10 @@ use Rattle.message.specs.WellFormed.{Bytes}
 use Rattle.theory.specs.Rounds.{Cut}
 use Rattle.table.specs.Answer.{answer}
 use Rattle.table.specs.Table.{Table, items}
-use Rattle.ends.specs.Opener.{Lent, opened}
+use Rattle.ends.specs.Opener.{Lent, opened, taken}
+use Rattle.ends.specs.Takes.{Run}
 use Rattle.ends.specs.Finished.{Finished, end, NoneCollides}
-use Rattle.ends.specs.Demand.{Take, opening, run, HandedAnswers, OneTime, Smallest}
+use Rattle.ends.specs.Demand.{Take, Place, opening, run, Answers, HandedAnswers, OneTime, Smallest}
 
 -- What `Demand3` asks of two tables and cuts, of L, of an opening that writes n bytes, and of the takes after it.
 pub record Asked (A B : Table) (a b : Cut) (L : ℕ) (lent : Lent) (n : ℕ) (takes : List Take) : Type 0 where
@@ -48,12 +49,17 @@ abbrev pub reply : List ℕ
 reply = 0x61 ∷ 0x00 ∷ 0x00 ∷ 0x02 ∷ 0x01 ∷ starting 0x02
 
 -- any bytes, refused by 6; the reply without room for its id, refused by 11; and the reply with room
+abbrev pub take₁ : Take
+take₁ = record { query = []; reply = 0x99 ∷ []; out = []; behind = [] }
+
+abbrev pub take₂ : Take
+take₂ = record { query = query; reply = reply; out = []; behind = [] }
+
+abbrev pub take₃ : Take
+take₃ = record { query = query; reply = reply; out = []; behind = replicate 32 0xCC }
+
 abbrev pub takes : List Take
-takes =
-    record { query = []; reply = 0x99 ∷ []; out = []; behind = [] }
-    ∷ record { query = query; reply = reply; out = []; behind = [] }
-    ∷ record { query = query; reply = reply; out = []; behind = replicate 32 0xCC }
-    ∷ []
+takes = take₁ ∷ take₂ ∷ take₃ ∷ []
 
 abbrev pub AskedHere : Type 0
 AskedHere = Asked ours theirs two two 0 lent (length query) takes
@@ -77,3 +83,16 @@ pub record AskedBoth (A B : Table) (a b c d : Cut) : Type 0 where
 
 abbrev pub AskedBothHere : Type 0
 AskedBothHere = (both : AskedBoth ours theirs two two two two) × (both .forth .takes ≡ takes) × (both .back .takes ≡ takesBack)
+
+-- ---- replies of any kind
+
+-- Answers of our responder, with any cut: replies of a kind that is lawful. The opener's table and cut play no part in them.
+abbrev pub OwnAnswer : Table → List ℕ → List ℕ → Type 0
+OwnAnswer B q r = (b : Cut) × Answers ours B two b q r
+
+-- the same takes as a list of which `TrueAndComplete OwnAnswer` speaks, up to a place where the session is done
+abbrev pub RunHere : Type 0
+RunHere =
+    (p : Place)
+    × Run (λ (t : Take). t) (λ t. taken ours two (t .reply)) (λ t. OwnAnswer theirs (t .query) (t .reply)) (opening ours two lent) p
+    × (p .session .done ≡ true)

@@ -7,8 +7,8 @@
 -- Demand     what holds of every list of takes after one opening, two ends keeping to their tables and cuts: `Demand3`
 -- Takes      lists of takes that differ in kind from each other, and what is owed of them: the words of the one theorem (proofs/Takes.antt)
 -- Finished   two finished sessions, opened from either end: `WhoeverOpens`
--- Instance   lists of takes on bytes of which `Demand3` and `WhoeverOpens` speak
 -- Replies    sessions with replies of any kind: `TrueAndComplete`
+-- Instance   lists of takes on bytes of which `Demand3`, `WhoeverOpens` and `TrueAndComplete` speak
 pub mod Lists
 pub mod Calls
 pub mod Responder
@@ -17,5 +17,5 @@ pub mod Passing
 pub mod Demand
 pub mod Takes
 pub mod Finished
-pub mod Instance
 pub mod Replies
+pub mod Instance

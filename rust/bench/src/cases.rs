@@ -27,10 +27,18 @@ pub struct Tables {
 }
 
 /// How many items both ends have, how many only the opener has, and how many only the responder has.
-struct Counts {
-    both: usize,
-    ours: usize,
-    theirs: usize,
+pub struct Counts {
+    pub both: usize,
+    pub ours: usize,
+    pub theirs: usize,
+}
+
+/// The order of the ids in the tables, beside that of the times.
+#[derive(Clone, Copy)]
+pub enum Order {
+    Random,
+    Rising,
+    Falling,
 }
 
 /// A case by name, with its counts for n items in a table that is not empty.
@@ -99,9 +107,15 @@ enum Owner {
 impl Case {
     /// The tables for this n: always the same.
     pub fn tables(&self, n: usize) -> Tables {
-        let counts = (self.counts)(n);
-        let mut random = Random(n as u64);
-        let owners = owners(&counts, &mut random);
+        Tables::made(&(self.counts)(n), Order::Random, n as u64)
+    }
+}
+
+impl Tables {
+    /// Tables with so many items: always the same for one seed.
+    pub fn made(counts: &Counts, order: Order, seed: u64) -> Tables {
+        let mut random = Random(seed);
+        let owners = owners(counts, &mut random);
         let mut tables = Tables {
             opener: Table::default(),
             responder: Table::default(),
@@ -109,7 +123,7 @@ impl Case {
             needed: Vec::new(),
         };
         let mut needed = Vec::new();
-        for (item, owner) in items(owners.len(), &mut random).iter().zip(owners) {
+        for (item, owner) in items(owners.len(), order, &mut random).iter().zip(owners) {
             if !matches!(owner, Owner::Responder) {
                 tables.opener.push(item);
                 tables.marks.push(matches!(owner, Owner::Opener) as u8);
@@ -138,16 +152,25 @@ fn owners(counts: &Counts, random: &mut Random) -> Vec<Owner> {
     owners
 }
 
-/// Items in table order. Half of the times are those of the item before, the others 1 to 1,000 above it.
-fn items(count: usize, random: &mut Random) -> Vec<Item> {
+/// Items in table order. Half of the times are those of the item before, the others 1 to 1,000 above it; where ids fall, all are
+/// above it.
+fn items(count: usize, order: Order, random: &mut Random) -> Vec<Item> {
     let mut time = 1_700_000_000;
-    let mut items = Vec::with_capacity(count);
+    let mut times = Vec::with_capacity(count);
+    let mut ids = Vec::with_capacity(count);
     for _ in 0..count {
-        if random.below(2) == 0 {
+        if matches!(order, Order::Falling) || random.below(2) == 0 {
             time += 1 + random.below(1000);
         }
-        items.push((time, random.id()));
+        times.push(time);
+        ids.push(random.id());
     }
+    match order {
+        Order::Random => (),
+        Order::Rising => ids.sort_unstable(),
+        Order::Falling => ids.sort_unstable_by(|a, b| b.cmp(a)),
+    }
+    let mut items = times.into_iter().zip(ids).collect::<Vec<Item>>();
     items.sort_unstable();
     items
 }

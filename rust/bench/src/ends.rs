@@ -3,8 +3,8 @@
 use crate::cases::{Table, Tables};
 use recon::{Cut, Sent, Session};
 
-/// The cut at both ends.
-pub const CUT: Cut = Cut { parts: 16, limit: 64 };
+/// The cuts, each at both ends.
+pub const CUTS: [Cut; 2] = [Cut { parts: 16, limit: 64 }, Cut { parts: 16, limit: 4096 }];
 
 /// What does the work of a call, or the two limits that stand beside it.
 #[derive(Clone, Copy, Debug, PartialEq, Eq)]
@@ -39,12 +39,17 @@ pub struct Buffers {
 impl Buffers {
     /// Buffers that are large enough, each page written once.
     pub fn new(tables: &Tables) -> Buffers {
+        Buffers::with_room(tables, tables.responder.count())
+    }
+
+    /// Buffers with room for so many needed ids.
+    pub fn with_room(tables: &Tables, ids: usize) -> Buffers {
         let (ours, theirs) = (tables.opener.count(), tables.responder.count());
         // An id of 32 bytes for each item, and a share in the bound of a range.
         let room = 48 * ours.max(theirs) + 4096;
         Buffers {
             marks: vec![UNSET; ours],
-            needed: vec![UNSET; 32 * theirs],
+            needed: vec![UNSET; 32 * ids],
             out: vec![UNSET; room],
         }
     }
@@ -72,35 +77,45 @@ fn common(sent: reference::Sent) -> Sent {
     }
 }
 
-pub fn open(way: Way, table: &Table, buffers: &mut Buffers) -> Sent {
+pub fn open(way: Way, table: &Table, cut: Cut, buffers: &mut Buffers) -> Sent {
     let Buffers { marks, needed, out } = buffers;
     match way {
-        Way::Library => done(way, recon::open_session(lent(table), CUT, marks, needed, out)),
+        Way::Library => done(way, recon::open_session(lent(table), cut, marks, needed, out)),
         _ => common(done(
             way,
-            reference::open(&table.times, &table.ids, CUT.parts, CUT.limit, marks, needed, out),
+            reference::open(&table.times, &table.ids, cut.parts, cut.limit, marks, needed, out),
         )),
     }
 }
 
 /// The length of the reply.
-pub fn answer(way: Way, table: &Table, query: &[u8], out: &mut [u8]) -> usize {
+pub fn answer(way: Way, table: &Table, cut: Cut, query: &[u8], out: &mut [u8]) -> usize {
     match way {
-        Way::Library => done(way, recon::answer_query(lent(table), CUT, query, out)),
+        Way::Library => done(way, recon::answer_query(lent(table), cut, query, out)),
         _ => done(
             way,
-            reference::answer(&table.times, &table.ids, CUT.parts, CUT.limit, query, out),
+            reference::answer(&table.times, &table.ids, cut.parts, cut.limit, query, out),
         ),
     }
 }
 
-pub fn take(way: Way, table: &Table, reply: &[u8], session: Session, buffers: &mut Buffers) -> Sent {
+pub fn take(way: Way, table: &Table, cut: Cut, reply: &[u8], session: Session, buffers: &mut Buffers) -> Sent {
+    done(way, try_take(way, table, cut, reply, session, buffers))
+}
+
+/// As `take`, with the number of a refusal.
+pub fn try_take(
+    way: Way,
+    table: &Table,
+    cut: Cut,
+    reply: &[u8],
+    session: Session,
+    buffers: &mut Buffers,
+) -> Result<Sent, u8> {
     let Buffers { marks, needed, out } = buffers;
     if way == Way::Library {
-        return done(
-            way,
-            recon::take_reply(lent(table), CUT, reply, session, marks, needed, out),
-        );
+        return recon::take_reply(lent(table), cut, reply, session, marks, needed, out)
+            .map_err(|refusal| refusal.number());
     }
     let Table { times, ids } = table;
     let Session {
@@ -113,8 +128,5 @@ pub fn take(way: Way, table: &Table, reply: &[u8], session: Session, buffers: &m
         needed: listed,
         done: over,
     };
-    common(done(
-        way,
-        reference::take(times, ids, CUT.parts, CUT.limit, reply, session, marks, needed, out),
-    ))
+    reference::take(times, ids, cut.parts, cut.limit, reply, session, marks, needed, out).map(common)
 }

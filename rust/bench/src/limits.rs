@@ -1,7 +1,7 @@
 //! What an opening can hardly be faster than: reading its table once, and hashing its fingerprints.
 
 use crate::cases::Table;
-use crate::ends::CUT;
+use recon::Cut;
 use std::ffi::{c_void, CStr};
 use std::os::raw::{c_char, c_int};
 use std::ptr;
@@ -30,9 +30,9 @@ fn word(bytes: &[u8]) -> u64 {
 }
 
 /// How many fingerprints the opening of a table makes.
-pub fn fingerprints(table: &Table) -> usize {
-    if table.count() > CUT.limit {
-        CUT.parts
+pub fn fingerprints(table: &Table, cut: Cut) -> usize {
+    if table.count() > cut.limit {
+        cut.parts
     } else {
         0
     }

@@ -8,6 +8,7 @@ mod ends;
 mod growth;
 mod layout;
 mod limits;
+mod lists;
 mod measure;
 mod record;
 mod report;
@@ -47,7 +48,7 @@ fn measure_all(effort: &Effort) -> Vec<Measured> {
         let first = all.len();
         for &n in effort.sizes {
             let start = Instant::now();
-            let measured = measure(&clock, effort, case, n, &all[first..]);
+            let measured = measure(&clock, effort, case, crate::ends::CUTS[0], n, &all[first..]);
             all.push(measured);
             eprintln!(
                 "{}, {} items: {:.1} s",
@@ -65,6 +66,7 @@ fn main() {
         eprintln!("bench [--quick] [--csv FILE]");
         process::exit(2)
     });
+    if env::var("LISTS").is_ok() { print!("{}", lists::text(&Clock::new(), &effort)); return; }
     let all = measure_all(&effort);
     print!("{}", report::text(&effort, &all));
     if let Some(file) = csv {

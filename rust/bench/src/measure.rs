@@ -6,6 +6,7 @@ use crate::ends::{answer, open, take, Buffers, Way, UNSET};
 use crate::limits::{fingerprints, hash, read_once, MESSAGE};
 use crate::record::{Record, Round};
 use crate::results::{Call, Measured, Series, Time};
+use recon::Cut;
 
 /// How much is measured.
 pub struct Effort {
@@ -65,7 +66,7 @@ impl Effort {
 }
 
 /// Measures a case, `smaller` being what was measured of it at smaller n.
-pub fn measure(clock: &Clock, effort: &Effort, case: &Case, n: usize, smaller: &[Measured]) -> Measured {
+pub fn measure(clock: &Clock, effort: &Effort, case: &Case, cut: Cut, n: usize, smaller: &[Measured]) -> Measured {
     let ways = |call| {
         let both = [Way::Library, Way::Reference];
         both.into_iter()
@@ -74,6 +75,7 @@ pub fn measure(clock: &Clock, effort: &Effort, case: &Case, n: usize, smaller: &
     };
     let mut measured = Measured {
         case: case.name,
+        limit: cut.limit,
         n,
         queries: Vec::new(),
         replies: Vec::new(),
@@ -86,13 +88,14 @@ pub fn measure(clock: &Clock, effort: &Effort, case: &Case, n: usize, smaller: &
     }
     let tables = case.tables(n);
     let mut buffers = Buffers::new(&tables);
-    let record = Record::made(&tables, &mut buffers);
+    let record = Record::made(&tables, cut, &mut buffers);
     measured.queries = record.rounds.iter().map(|round| round.query.len()).collect();
     measured.replies = record.rounds.iter().map(|round| round.reply.len()).collect();
     let mut run = Run {
         clock,
         effort,
         tables: &tables,
+        cut,
         record: &record,
         buffers,
     };
@@ -103,19 +106,20 @@ pub fn measure(clock: &Clock, effort: &Effort, case: &Case, n: usize, smaller: &
     measured
 }
 
-struct Run<'a> {
-    clock: &'a Clock,
-    effort: &'a Effort,
-    tables: &'a Tables,
-    record: &'a Record,
-    buffers: Buffers,
+pub struct Run<'a> {
+    pub clock: &'a Clock,
+    pub effort: &'a Effort,
+    pub tables: &'a Tables,
+    pub cut: Cut,
+    pub record: &'a Record,
+    pub buffers: Buffers,
 }
 
 impl Run<'_> {
     /// The opening and, in the same turns, its limits.
     fn opening(&mut self, ways: &[Way]) -> Vec<Series> {
         let table = &self.tables.opener;
-        let (count, digest, sum) = (fingerprints(table), reference::sha256(&MESSAGE), read_once(table));
+        let (count, digest, sum) = (fingerprints(table, self.cut), reference::sha256(&MESSAGE), read_once(table));
         // An opening that has no fingerprint has no limit that could be measured.
         let limits = if count > 0 {
             vec![Way::Reading, Way::OpenSsl]
@@ -135,7 +139,7 @@ impl Run<'_> {
             }
             Way::Library | Way::Reference => {
                 self.record.prepare(0, &mut self.buffers);
-                let (seconds, sent) = self.clock.time(|| open(way, table, &mut self.buffers));
+                let (seconds, sent) = self.clock.time(|| open(way, table, self.cut, &mut self.buffers));
                 self.record.compare(way, 0, sent, &self.buffers);
                 seconds
             }
@@ -147,7 +151,7 @@ impl Run<'_> {
     }
 
     /// All answers or all takes, round by round.
-    fn rounds(&mut self, call: Call, ways: &[Way]) -> Vec<Series> {
+    pub fn rounds(&mut self, call: Call, ways: &[Way]) -> Vec<Series> {
         let mut times = vec![Vec::new(); ways.len()];
         for round in 0..self.record.rounds.len() {
             let of_round = alternate(self.effort, ways, |way| match call {
@@ -165,7 +169,7 @@ impl Run<'_> {
         let Round { query, reply, .. } = &self.record.rounds[round];
         let out = &mut self.buffers.out;
         out[..reply.len()].fill(UNSET);
-        let (seconds, length) = self.clock.time(|| answer(way, &self.tables.responder, query, out));
+        let (seconds, length) = self.clock.time(|| answer(way, &self.tables.responder, self.cut, query, out));
         let same = *reply == out[..length];
         assert!(same, "the results differ: {}, answer {}", way.name(), round + 1);
         seconds
@@ -175,7 +179,7 @@ impl Run<'_> {
         let Round { reply, before, .. } = &self.record.rounds[round];
         self.record.prepare(round + 1, &mut self.buffers);
         let (table, buffers) = (&self.tables.opener, &mut self.buffers);
-        let (seconds, sent) = self.clock.time(|| take(way, table, reply, before.session, buffers));
+        let (seconds, sent) = self.clock.time(|| take(way, table, self.cut, reply, before.session, buffers));
         self.record.compare(way, round + 1, sent, &self.buffers);
         seconds
     }
@@ -194,7 +198,7 @@ fn series(call: Call, ways: &[Way], times: &[Vec<Time>]) -> Vec<Series> {
 }
 
 /// Runs each way in turn, each turn beginning with another one, and gives the least time of each.
-fn alternate(effort: &Effort, ways: &[Way], mut run: impl FnMut(Way) -> f64) -> Vec<Time> {
+pub fn alternate(effort: &Effort, ways: &[Way], mut run: impl FnMut(Way) -> f64) -> Vec<Time> {
     let mut least = vec![f64::INFINITY; ways.len()];
     let (mut turn, mut turns) = (0, 1);
     while turn < turns {

@@ -1,7 +1,7 @@
 //! The text: the opening beside its limits, the sessions, and the growth.
 
 use crate::cases::CASES;
-use crate::ends::{Way, CUT};
+use crate::ends::{Way, CUTS};
 use crate::growth::{growth, FACTOR, SHORTEST};
 use crate::layout::{aligned, duration, grouped, quotient, row};
 use crate::limits::openssl_version;
@@ -27,7 +27,7 @@ fn head(effort: &Effort, openssl: &str) -> String {
         budget,
         ..
     } = effort;
-    let Cut { parts, limit } = CUT;
+    let Cut { parts, limit } = CUTS[0];
     format!(
         "\
 Whole sessions by the proved library and by the plain Rust reference, in one run and on the same inputs.

@@ -11,12 +11,14 @@ use writer::varint::Written;
 use writer::write::Write;
 use writer::write::Writer;
 ghost use mathlib.Core.Path.{_≡_};
-ghost use mathlib.Core.Bool.{false};
+ghost use mathlib.Core.Bool.{true, false};
 ghost use mathlib.Core.List.{[], _∷_};
 ghost use Prim.Native.Nat.{_-_, _≤_, _<_};
 ghost use lib.ListN.{length};
 ghost use Rattle.message.specs.Message.{range, fingerprint, ids};
 ghost use Rattle.message.specs.Code.{boundOf};
+ghost use Rattle.label.specs.Label as labels;
+ghost use Rattle.label.specs.Code.{wholeIds};
 ghost use Rattle.theory.specs.Cutting.{split};
 ghost use Rattle.theory.specs.Standard.{sizes};
 ghost use Rattle.writer.specs.Private.{Lawful};
@@ -54,6 +56,16 @@ pub fn put_ids(
     writer.put(out, writing, range, own)
 }
 
+// The fingerprint of the items whose ids these are. Of one that is only measured the size alone counts, so none is computed.
+fn fingerprint_bytes(writing: bool, ids: &[u8]) -> [u8; 16]
+    ensures { λ r. ⌜ (writing ≡ true → r ≡ labels.fingerprint (labels.labelOf (wholeIds (now (ids .entry))))) ⌝ }
+{
+    if writing {
+        return Label::of_ids(ids).fingerprint();
+    }
+    [0u8; 16]
+}
+
 // One range with the fingerprint of the items from place `at` up to place `end`.
 fn put_fingerprint(
     writer: Writer,
@@ -70,7 +82,7 @@ fn put_fingerprint(
 {
     let first = at * 32;
     let last = end * 32;
-    let source = Label::of_ids(&own[first..last]).fingerprint();
+    let source = fingerprint_bytes(writing, &own[first..last]);
     let bound = upper.bound;
     let prefix = upper.prefix;
     let range = Range {

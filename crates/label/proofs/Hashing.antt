@@ -7,7 +7,7 @@ use native.Mathlib.Omega.{arith}
 use lib.Arith.{lt-one}
 use lib.Dec.{lit<, leb}
 use lib.ListN.{length, take, drop, length-append}
-use lib.Seq.{take-at, take-take, sets, sets-eq}
+use lib.Seq.{take-at, sets, sets-eq}
 use borrow.Rule.Slice.PartMut.{midOf, putMid}
 use borrow.Author.Tests.{leb-true, leb-false}
 use Rattle.message.specs.Varint.{spellVarint}
@@ -97,7 +97,6 @@ pub fingerprint-is : (l : Label) (bytes d r : List ℕ) → bytes ≡ hashed l �
 unfolding fingerprint
 fingerprint-is l bytes d r p q e = e ∙ ap (take 16) (q ∙ ap digest p)
 
--- a fingerprint has 16 bytes at most
-pub fingerprint-whole : (l : Label) → take 16 (fingerprint l) ≡ fingerprint l
-unfolding fingerprint
-fingerprint-whole l = take-take 16 16 (digest (hashed l)) (omega arith)
+pub fingerprint-length : (l : Label) → length (fingerprint l) ≡ 16
+unfolding fingerprint digest
+fingerprint-length l = refl

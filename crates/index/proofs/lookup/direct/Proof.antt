@@ -8,7 +8,7 @@ use borrow.Author.Needs.{needs}
 use Rattle.message.proofs.Order.{Small}
 use Rattle.index.specs.Sorting.{bucketOf}
 use Rattle.index.specs.Lookup.{Head}
-use Rattle.index.proofs.Buckets.{head-at, head-set}
+use Rattle.index.proofs.Directory.{head-at, head-set}
 use Rattle.index.proofs.lookup.direct.Statement.{statement}
 use Rattle.index.proofs.lookup.direct.Tie as tie
 

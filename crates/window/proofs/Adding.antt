@@ -1,5 +1,5 @@
 -- What the ranges of a reply add to the needed list.
-use Prim.Native.Nat.{ℕ, suc, _+_, _-_, _*_, _≤_, _<_}
+use Prim.Native.Nat.{ℕ, zero, suc, _+_, _-_, _*_, _≤_, _<_}
 use mathlib.Core.Path.{_≡_, refl, sym, ap, subst, _∙_}
 use mathlib.Core.Bool.{Bool, true, false, cond, not, _&&_, _||_, and-true, and-false, or-assoc}
 use mathlib.Core.List.{List, [], _∷_, _++_, foldr, flatten, foldr-append}
@@ -45,6 +45,11 @@ pub some-append : {A : Type 0} (p : A → Bool) (a b : List A) → some p (a ++ 
 unfolding some
 some-append p [] b = refl
 some-append p (x ∷ a) b = rw (some-append p a b) (sym (or-assoc (p x) (some p a) (some p b)))
+
+pub keep-append : {A : Type 0} (p : A → Bool) (k l : List A) → keep p (k ++ l) ≡ keep p k ++ keep p l
+unfolding keep
+keep-append p [] l = refl
+keep-append p (x ∷ k) l = byTest (p x) (λ e. rw (e, keep-append p k l) refl) (λ e. rw e (keep-append p k l))
 
 -- a test of ids goes by their bytes alone
 pub some-keep : (d : List ℕ) (q : List ℕ → Bool) (l : List (List ℕ)) → some (same d) (keep q l) ≡ (some (same d) l && q d)
@@ -158,6 +163,14 @@ module _ (T : Table) (m : List ℕ) (w : Walk) (bytes : Bytes m) (walking : Walk
       omega (arith, few (items T) (lowerAt (w .cursor)) (rangesAt m (w .cursor)) (r .0), ap length (r .1), length-drop (w .cursor .at) m)
 
 -- ---- a list of ids
+
+pub ids-parts : (a b : ℕ) (l : List ℕ) → idsIn (a + b) l ≡ idsIn a l ++ idsIn b (drop (a * 32) l)
+unfolding idsIn
+ids-parts zero b l = let e : 0 + b ≡ b = omega arith in rw e refl
+ids-parts (suc a) b l =
+    let d : 32 + a * 32 ≡ suc a * 32 = omega arith in
+    let e : suc a + b ≡ suc (a + b) = omega arith in
+    rw (e, ids-parts a b (drop 32 l), drop-drop (a * 32) 32 l, d) refl
 
 -- the ids of the list at place `at`, from the i-th on
 abbrev pub listFrom : List ℕ → ℕ → ℕ → ℕ → List (List ℕ)

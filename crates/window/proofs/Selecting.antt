@@ -1,13 +1,14 @@
 -- The smallest ids so far, by their places: one more is offered, and the ids still to come become fewer.
-use Prim.Native.Nat.{ℕ, _+_, _-_, _*_, _≤_, _<_}
+use Prim.Native.Nat.{ℕ, zero, suc, _+_, _-_, _*_, _≤_, _<_}
 use mathlib.Core.Path.{_≡_, refl, sym, ap, subst, _∙_}
-use mathlib.Core.Bool.{Bool, true, false, not, _&&_, _||_}
-use mathlib.Core.List.{List, [], _∷_, _++_, map}
+use mathlib.Core.Bool.{Bool, true, false, cond, not}
+use mathlib.Core.List.{List, [], _∷_, _++_, map, append-assoc}
 use mathlib.Core.Logic.{_⊎_, inl, inr, ⊎-elim}
+use native.Mathlib.Nat.{le-refl}
 use native.Mathlib.Omega.{arith}
 use lib.Dec.{leb, ltb, eqb}
 use lib.ListN.{length, take, drop, getD, set}
-use lib.Seq.{getD-set-same, getD-set-other}
+use lib.Seq.{getD-set-same, getD-set-other, drop-drop}
 use borrow.Author.Tests.{ltb-true, ltb-false, leb-true, leb-false, le-leb, eqb-true, eqb-false, eq-eqb}
 use Rattle.message.specs.Bound.{Bound, bigEndian}
 use Rattle.message.specs.Message.{ids}
@@ -16,8 +17,8 @@ use Rattle.message.specs.declared.Payload.{Payload}
 use Rattle.message.proofs.Exact.{byTest, differ}
 use Rattle.theory.specs.Table.{has}
 use Rattle.theory.proofs.Tables.{has-cases, has-here, has-there}
-use Rattle.writer.proofs.Laying.{rest, rest-is}
 use Rattle.reader.specs.Private.{lowerAt}
+use Rattle.reader.proofs.Listing.{part-from}
 use Rattle.table.specs.Lists.{keep}
 use Rattle.table.specs.Table.{Table, items, within}
 use Rattle.table.proofs.Words.{bigEndian-take}
@@ -31,10 +32,11 @@ use Rattle.walk.specs.declared.Walk.{Walk}
 use Rattle.walk.specs.declared.Step.{Step}
 use Rattle.idlist.specs.Positions.{keyAt, Pointing}
 use Rattle.window.specs.Adding.{addedFrom}
-use Rattle.window.specs.Sorting.{Heap, Rearranged, Distinct}
-use Rattle.window.specs.Windows.{fromBy, Held, among, beyond, Placed, Offered, others, Gathering, Gathered, Windowed}
-use Rattle.window.proofs.Adding.{lacks, list-adds, unowned-is, rangeAdds, added-next, added-ends, listFrom, list-whole, list-none, list-next}
-use Rattle.window.proofs.Heaps.{same-key, pointing-kept, keys-kept, keys-from, heap-top}
+use Rattle.index.specs.Lookup.{listed, Room}
+use Rattle.index.specs.Sorting.{Worded, Heap, Rearranged, Distinct}
+use Rattle.index.proofs.Heaps.{same-key, pointing-kept, keys-kept, keys-from, heap-top}
+use Rattle.window.specs.Windows.{fromBy, wants, Held, among, beyond, Placed, Offered, others, FoundIn, Gathering, Gathered, Windowed}
+use Rattle.window.proofs.Adding.{lacks, list-adds, unowned-is, rangeAdds, added-next, added-ends, listFrom, list-whole, list-none, list-next, ids-parts, keep-append}
 
 -- the ids as numbers
 abbrev numbers : List (List ℕ) → List ℕ
@@ -50,14 +52,15 @@ module _ (m : List ℕ) (first : Bool) (floor p : ℕ) where
   pub above-first : first ≡ true → above ≡ true
   above-first e = rw e (le-leb 0 (bigEndian 32 (drop p m)) (omega arith))
 
-  pub above-floor : (r : Bool) → first ≡ false → r ≡ ltb (bigEndian 32 (rest floor m)) (bigEndian 32 (rest p m)) → above ≡ r
-  above-floor r e h = rw (e, h, rest-is floor m, rest-is p m) refl
+  pub above-floor : (r : Bool) → first ≡ false → r ≡ ltb (bigEndian 32 (drop floor m)) (bigEndian 32 (drop p m)) → above ≡ r
+  above-floor r e h = rw (e, h) refl
 
 -- ---- a place joins
 
-module _ (m pos : List ℕ) (n p : ℕ) (long : length pos ≡ 16384) (placed : Placed m pos n) (whole : p + 32 ≤ length m) where
+module _ (m words pos : List ℕ) (n p v : ℕ) (wide : length words ≡ 16384) (long : length pos ≡ 16384) (placed : Placed m words pos n) (whole : p + 32 ≤ length m)
+    (first : v ≡ bigEndian 8 (drop p m)) where
   module _ (i r : ℕ) (here : i < r) (few : r ≤ 16384) (old : (k : ℕ) → k < r → (k ≡ i → ⊥) → k < n) where
-    -- p is put at place number i, and the first r places then move
+    -- p is put at place number i with its word, and the first r places then move
     put-here : getD (set pos i p) i 0 ≡ p
     put-here = getD-set-same pos i p 0 (omega arith)
 
@@ -67,11 +70,17 @@ module _ (m pos : List ℕ) (n p : ℕ) (long : length pos ≡ 16384) (placed : 
         (λ e. rw (eqb-true k i e, put-here) whole)
         (λ e. rw (getD-set-other pos i k p 0 (eqb-false k i e)) (placed .points k (old k l (eqb-false k i e))))
 
-    module _ (after : List ℕ) (moved : Rearranged (set pos i p) after r) (heap : r ≡ 16384 → Heap m after 0 r) (more : n ≤ r)
+    put-worded : Worded m (set words i v) (set pos i p) r
+    put-worded k l =
+        byTest (eqb k i)
+        (λ e. rw (eqb-true k i e, put-here, getD-set-same words i v 0 (omega arith)) first)
+        (λ e. rw (getD-set-other pos i k p 0 (eqb-false k i e), getD-set-other words i k v 0 (eqb-false k i e)) (placed .worded k (old k l (eqb-false k i e))))
+
+    module _ (later after : List ℕ) (moved : Rearranged (set pos i p) after r) (worded : Worded m later after r) (heap : r ≡ 16384 → Heap m after 0 r) (more : n ≤ r)
         (gone : i < n → (n ≡ 16384) × (i ≡ 0)) where
-      put-offered : (n < 16384 → r ≡ n + 1) → (n ≡ 16384 → r ≡ 16384) → Offered m pos n p after r
+      put-offered : (n < 16384 → r ≡ n + 1) → (n ≡ 16384 → r ≡ 16384) → Offered m pos n p later after r
       put-offered room full = record {
-        placed = record { few = few; points = pointing-kept m (set pos i p) after r moved put-points; heap = heap };
+        placed = record { few = few; points = pointing-kept m (set pos i p) after r moved put-points; worded = worded; heap = heap };
         room = room;
         full = full;
         joined = let j = moved .kept i here in (j .0, j .1, j .2 ∙ put-here);
@@ -95,19 +104,26 @@ module _ (m pos : List ℕ) (n p : ℕ) (long : length pos ≡ 16384) (placed : 
         rw (same-key m (set pos 0 p) pos c c (getD-set-other pos 0 c p 0 j), same-key m (set pos 0 p) pos k k (getD-set-other pos 0 k p 0 i))
         (placed .heap full k c (omega arith) a b (omega arith))
 
-    pub first-offered : (after : List ℕ) → Rearranged (set pos 0 p) after 16384 → Heap m after 0 16384 → Offered m pos n p after n
-    first-offered after r h =
-        subst (λ (k : ℕ). Offered m pos n p after k) (sym full)
-        (put-offered 0 16384 (omega arith) (omega arith) (λ k l e. omega arith) after r (λ e. h) (omega arith) (λ l. (full, refl)) (λ l. omega arith) (λ e. refl))
+    pub first-worded : Worded m (set words 0 v) (set pos 0 p) 16384
+    first-worded = put-worded 0 16384 (omega arith) (omega arith) (λ k l e. omega arith)
+
+    pub first-offered : (later after : List ℕ) → Rearranged (set pos 0 p) after 16384 → Worded m later after 16384 → Heap m after 0 16384 → Offered m pos n p later after n
+    first-offered later after r w h =
+        subst (λ (k : ℕ). Offered m pos n p later after k) (sym full)
+        (put-offered 0 16384 (omega arith) (omega arith) (λ k l e. omega arith) later after r w (λ e. h) (omega arith) (λ l. (full, refl)) (λ l. omega arith) (λ e. refl))
 
   -- behind the others
   module _ (room : n < 16384) where
     pub last-points : Pointing m (set pos n p) (n + 1)
     last-points = put-points n (n + 1) (omega arith) (omega arith) (λ k l e. omega (arith, e))
 
-    pub last-offered : (after : List ℕ) → Rearranged (set pos n p) after (n + 1) → (n + 1 ≡ 16384 → Heap m after 0 (n + 1)) → Offered m pos n p after (n + 1)
-    last-offered after r h =
-        put-offered n (n + 1) (omega arith) (omega arith) (λ k l e. omega (arith, e)) after r h (omega arith) (λ l. absurd (omega arith)) (λ l. refl) (λ e. omega arith)
+    pub last-worded : Worded m (set words n v) (set pos n p) (n + 1)
+    last-worded = put-worded n (n + 1) (omega arith) (omega arith) (λ k l e. omega (arith, e))
+
+    pub last-offered : (later after : List ℕ) → Rearranged (set pos n p) after (n + 1) → Worded m later after (n + 1) → (n + 1 ≡ 16384 → Heap m after 0 (n + 1))
+        → Offered m pos n p later after (n + 1)
+    last-offered later after r w h =
+        put-offered n (n + 1) (omega arith) (omega arith) (λ k l e. omega (arith, e)) later after r w h (omega arith) (λ l. absurd (omega arith)) (λ l. refl) (λ e. omega arith)
 
 -- ---- an id that comes first of those still to come
 
@@ -126,8 +142,8 @@ module _ (m : List ℕ) (all : List (List ℕ)) (d : List ℕ) (later : List (Li
         (g .holds x e l);
   }
 
-  module _ (p : ℕ) (after : List ℕ) (r : ℕ) (placed : Placed m pos n) (here : bigEndian 32 d ≡ bigEndian 32 (drop p m)) (low : f ≤ bigEndian 32 d)
-      (least : n ≡ 16384 → bigEndian 32 d < keyAt m pos 0) (o : Offered m pos n p after r) where
+  module _ (words : List ℕ) (p : ℕ) (words' after : List ℕ) (r : ℕ) (placed : Placed m words pos n) (here : bigEndian 32 d ≡ bigEndian 32 (drop p m)) (low : f ≤ bigEndian 32 d)
+      (least : n ≡ 16384 → bigEndian 32 d < keyAt m pos 0) (o : Offered m pos n p words' after r) where
     key-here : (k : ℕ) → getD after k 0 ≡ p → keyAt m after k ≡ bigEndian 32 d
     unfolding keyAt
     key-here k e = rw e (sym here)
@@ -172,10 +188,7 @@ module _ (m : List ℕ) (all : List (List ℕ)) (d : List ℕ) (later : List (Li
 
 -- what the test of an id x tells
 module _ (f x n top : ℕ) where
-  abbrev pub wants : Bool
-  wants = leb f x && (ltb n 16384 || ltb x top)
-
-  wanted-is : true ≡ wants → (f ≤ x) × (n ≡ 16384 → x < top)
+  wanted-is : true ≡ wants f x n top → (f ≤ x) × (n ≡ 16384 → x < top)
   wanted-is e =
       byTest (leb f x)
       (λ a. byTest (ltb n 16384)
@@ -183,13 +196,30 @@ module _ (f x n top : ℕ) where
       (λ b. let h : true ≡ ltb x top = rw (a, b) at e in (leb-true f x a, λ q. ltb-true x top (sym h))))
       (λ a. let h : true ≡ false = rw a at e in differ (cc))
 
-  unwanted-is : false ≡ wants → n ≤ 16384 → f ≤ x → (n ≡ 16384) × (top ≤ x)
+  unwanted-is : false ≡ wants f x n top → n ≤ 16384 → f ≤ x → (n ≡ 16384) × (top ≤ x)
   unwanted-is e few l =
       byTest (leb f x)
       (λ a. byTest (ltb n 16384)
       (λ b. let h : false ≡ true = rw (a, b) at e in differ (cc))
       (λ b. let h : false ≡ ltb x top = rw (a, b) at e in let k = ltb-false n 16384 b in (omega arith, ltb-false x top (sym h))))
       (λ a. let h = leb-false f x a in absurd (omega arith))
+
+-- the id at place p is passed over, or taken in
+module _ (m : List ℕ) (all : List (List ℕ)) (p : ℕ) (later : List (List ℕ)) (f : ℕ) (words pos : List ℕ) (n : ℕ) (placed : Placed m words pos n)
+    (g : Gathering m all (take 32 (drop p m) ∷ later) f pos n) (b : Bool) (e : b ≡ wants f (bigEndian 32 (drop p m)) n (keyAt m pos 0)) where
+  abbrev id : List ℕ
+  id = take 32 (drop p m)
+
+  pub id-unwanted : b ≡ false → Gathering m all later f pos n
+  id-unwanted t =
+      passed m all id later f pos n g
+      (λ l. let u = unwanted-is f (bigEndian 32 id) n (keyAt m pos 0) (rw (bigEndian-take 32 (drop p m)) (sym t ∙ e)) (placed .few) l in beyond (u .0) (u .1))
+
+  pub id-taken : b ≡ true → (words' after : List ℕ) (r : ℕ) → Offered m pos n p words' after r → Gathering m all later f after r
+  id-taken t words' after r k =
+      let here = bigEndian-take 32 (drop p m) in
+      let w = wanted-is f (bigEndian 32 id) n (keyAt m pos 0) (rw here (sym t ∙ e)) in
+      taken m all id later f pos n g words p words' after r placed here (w .0) (w .1) k
 
 module _ (own : List (List ℕ)) (m : List ℕ) (at count : ℕ) where
   -- the ids from the i-th on that are no own ones
@@ -203,7 +233,7 @@ module _ (own : List (List ℕ)) (m : List ℕ) (at count : ℕ) where
   unfolding keep
   list-ends i h later = rw (list-none m count at i h) refl
 
-  module _ (i : ℕ) (h : i < count) (all later : List (List ℕ)) (f : ℕ) (pos : List ℕ) (n : ℕ) (placed : Placed m pos n)
+  module _ (i : ℕ) (h : i < count) (all later : List (List ℕ)) (f : ℕ) (words pos : List ℕ) (n : ℕ) (placed : Placed m words pos n)
       (g : Gathering m all (othersFrom i ++ later) f pos n) where
     abbrev p : ℕ
     p = at + i * 32
@@ -211,32 +241,65 @@ module _ (own : List (List ℕ)) (m : List ℕ) (at count : ℕ) where
     abbrev d : List ℕ
     d = take 32 (drop p m)
 
-    -- the i-th id is an own one, or is not wanted, or is taken in
-    pub list-own : some (same d) own ≡ true → Gathering m all (othersFrom (i + 1) ++ later) f pos n
+    list-own : some (same d) own ≡ true → Gathering m all (othersFrom (i + 1) ++ later) f pos n
     unfolding keep
     list-own e = rw (list-next m count at i h, e) at g
 
-    other-left : some (same d) own ≡ false → Gathering m all (d ∷ (othersFrom (i + 1) ++ later)) f pos n
+    list-other : some (same d) own ≡ false → Gathering m all (d ∷ (othersFrom (i + 1) ++ later)) f pos n
     unfolding keep
-    other-left e = rw (list-next m count at i h, e) at g
+    list-other e = rw (list-next m count at i h, e) at g
 
-    pub list-unwanted : (b : Bool) → b ≡ wants f (bigEndian 32 (drop p m)) n (keyAt m pos 0) → b ≡ false → Gathering m all (othersFrom (i + 1) ++ later) f pos n
-    list-unwanted b e t =
-        byTest (some (same d) own) list-own
-        (λ o. passed m all d (othersFrom (i + 1) ++ later) f pos n (other-left o)
-        (λ l. let u = unwanted-is f (bigEndian 32 d) n (keyAt m pos 0) (rw (bigEndian-take 32 (drop p m)) (sym t ∙ e)) (placed .few) l in beyond (u .0) (u .1)))
+    -- the i-th id comes where v tells that it is no own one
+    pub list-step : (v : ℕ) → v ≡ cond (some (same d) own) 1 0 → Gathering m all (cond (eqb v 0) (d ∷ (othersFrom (i + 1) ++ later)) (othersFrom (i + 1) ++ later)) f pos n
+    list-step v e =
+        byTest (some (same d) own)
+        (λ t. let z : v ≡ 1 = e ∙ rw t refl in rw z (list-own t))
+        (λ t. let z : v ≡ 0 = e ∙ rw t refl in rw z (list-other t))
 
-    pub list-taken : (b : Bool) → b ≡ wants f (bigEndian 32 (drop p m)) n (keyAt m pos 0) → b ≡ true → some (same d) own ≡ false
-        → (after : List ℕ) (r : ℕ) → Offered m pos n p after r → Gathering m all (othersFrom (i + 1) ++ later) f after r
-    list-taken b e t o after r k =
-        let here = bigEndian-take 32 (drop p m) in
-        let w = wanted-is f (bigEndian 32 d) n (keyAt m pos 0) (rw here (sym t ∙ e)) in
-        taken m all d (othersFrom (i + 1) ++ later) f pos n (other-left o) p after r placed here (w .0) (w .1) k
+    list-unwanted : wants f (bigEndian 32 (drop p m)) n (keyAt m pos 0) ≡ false → Gathering m all (othersFrom (i + 1) ++ later) f pos n
+    list-unwanted e = byTest (some (same d) own) list-own (λ o. id-unwanted m all p (othersFrom (i + 1) ++ later) f words pos n placed (list-other o) false (sym e) refl)
 
--- what a search among the own ids of a table tells
-pub contains-told : (own m : List ℕ) (first owned p : ℕ) (r : Bool)
-    → r ≡ some (same (take 32 (rest p m))) (idsIn owned (rest first own)) → r ≡ some (same (take 32 (drop p m))) (idsIn owned (drop first own))
-contains-told own m first owned p r e = rw (rest-is p m, rest-is first own) at e
+  -- what was found of the ids tells which are own ones
+  pub found-at : (found : List ℕ) → FoundIn own found (drop at m) count → (i : ℕ) → i < count → getD found i 0 ≡ cond (some (same (take 32 (drop (at + i * 32) m))) own) 1 0
+  found-at found h i l = let e = drop-drop (i * 32) at m in rw e at (h i l)
+
+  -- a part of the list, and what is behind it
+  pub list-part : (i part : ℕ) → i + part ≤ count → (later : List (List ℕ))
+      → othersFrom i ++ later ≡ keep (lacks own) (idsIn part (drop (at + i * 32) m)) ++ (othersFrom (i + part) ++ later)
+  list-part i part h later =
+      let e : count - i ≡ part + (count - (i + part)) = omega arith in
+      let d : at + i * 32 + part * 32 ≡ at + (i + part) * 32 = omega arith in
+      rw (
+        e,
+        ids-parts part (count - (i + part)) (drop (at + i * 32) m),
+        drop-drop (part * 32) (at + i * 32) m,
+        d,
+        keep-append (lacks own) (idsIn part (drop (at + i * 32) m)) (idsIn (count - (i + part)) (drop (at + (i + part) * 32) m)),
+      )
+      (append-assoc (keep (lacks own) (idsIn part (drop (at + i * 32) m))) (keep (lacks own) (idsIn (count - (i + part)) (drop (at + (i + part) * 32) m))) later)
+
+  -- none of the ids is wanted
+  module _ (all later : List (List ℕ)) (f : ℕ) (words pos : List ℕ) (n : ℕ) (placed : Placed m words pos n)
+      (none : (i : ℕ) → i < count → wants f (bigEndian 32 (drop (at + i * 32) m)) n (keyAt m pos 0) ≡ false)
+      (g : Gathering m all (keep (lacks own) (idsIn count (drop at m)) ++ later) f pos n) where
+    passed-to : (i : ℕ) → i ≤ count → Gathering m all (othersFrom i ++ later) f pos n
+    passed-to zero h = rw list-starts at g
+    passed-to (suc i) h =
+        let e : suc i ≡ i + 1 = omega arith in
+        rw e (list-unwanted i (omega arith) all later f words pos n placed (passed-to i (omega arith)) (none i (omega arith)))
+
+    pub list-passed : Gathering m all later f pos n
+    list-passed = rw (list-ends count (le-refl count) later) at (passed-to count (le-refl count))
+
+-- what a search for many ids among own ones tells
+pub found-told : (own m : List ℕ) (start owned at count : ℕ) (found : List ℕ)
+    → ((i : ℕ) → i < count → getD found i 0 ≡ cond (listed (take (length own - start) (drop start own)) owned (take (length m - at) (drop at m)) i) 1 0)
+    → FoundIn (idsIn owned (drop start own)) found (drop at m) count
+found-told own m start owned at count found h = rw (part-from own start, part-from m at) at h
+
+-- room for looking ids up stays
+pub room-kept : (w p f w' p' f' : List ℕ) → Room w p f → length w' ≡ length w → length p' ≡ length p → length f' ≡ length f → Room w' p' f'
+room-kept w p f w' p' f' r a b c = record { some = rw a (r .some); beside = rw (a, b) (r .beside); few = rw a (r .few); noted = rw c (r .noted) }
 
 -- ---- the ranges of a message
 
@@ -245,8 +308,8 @@ unowned-span : (T : Table) (s : Span) → s .hi ≤ length (T .times) → (x : B
     → unowned (items T) x (upperOf s) (ids l) ≡ others (T .ids) s l
 unowned-span T s h x e l = unowned-is T s x e l ∙ ap (λ (o : List (List ℕ)). keep (lacks o) l) (ids-run T (s .lo) (s .hi) h)
 
-pub none-placed : (m pos : List ℕ) → Placed m pos 0
-none-placed m pos = record { few = omega arith; points = λ k l. absurd (omega arith); heap = λ e. absurd (omega arith) }
+pub none-placed : (m words pos : List ℕ) → Placed m words pos 0
+none-placed m words pos = record { few = omega arith; points = λ k l. absurd (omega arith); worded = λ k l. absurd (omega arith); heap = λ e. absurd (omega arith) }
 
 pub none-gathered : (m : List ℕ) (all : List (List ℕ)) (f : ℕ) (pos : List ℕ) → Gathering m all all f pos 0
 none-gathered m all f pos = record { left = λ x e. e; from = λ k l. absurd (omega arith); holds = λ x e l. inl e }
@@ -267,13 +330,14 @@ module _ (T : Table) (m : List ℕ) (w : Walk) (all : List (List ℕ)) (f : ℕ)
         ∙ unowned-span T (s .span) (k .span .1) (lowerAt (w .cursor)) (k .own) (idsIn count (drop at m)))
 
   -- no range is left
-  pub ranges-end : length m ≤ w .cursor .at → Placed m pos n → Gathered m all f pos n
+  pub ranges-end : (words : List ℕ) → length m ≤ w .cursor .at → Placed m words pos n → Gathered m all f words pos n
   unfolding has
-  ranges-end h placed =
+  ranges-end words h placed =
       let r : Gathering m all [] f pos n = rw (added-ends T m w h) at g in
       record {
         few = placed .few;
         points = placed .points;
+        worded = placed .worded;
         heap = placed .heap;
         from = g .from;
         holds = λ x e l. ⊎-elim (λ k. differ (cc)) (λ k. k) (r .holds x e l);
@@ -282,7 +346,7 @@ module _ (T : Table) (m : List ℕ) (w : Walk) (all : List (List ℕ)) (f : ℕ)
 -- ---- a window
 
 -- the places that were gathered, sorted, one for each id
-module _ (m : List ℕ) (all : List (List ℕ)) (f : ℕ) (pos : List ℕ) (n : ℕ) (g : Gathered m all f pos n) (sorted : List ℕ) (moved : Rearranged pos sorted n)
+module _ (m : List ℕ) (all : List (List ℕ)) (f : ℕ) (words pos : List ℕ) (n : ℕ) (g : Gathered m all f words pos n) (sorted : List ℕ) (moved : Rearranged pos sorted n)
     (once : List ℕ) (r : ℕ) (d : Distinct m sorted n once r) where
   once-from : (k : ℕ) → k < r → (j : ℕ) × (j < n) × (keyAt m pos j ≡ keyAt m once k)
   once-from k l = let i = d .from k l in let j = keys-from m pos sorted n moved (i .0) (i .1) in (j .0, j .1, j .2 ∙ i .2)

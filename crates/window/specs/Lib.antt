@@ -1,7 +1,5 @@
 -- For our own crates:
 -- Adding   what the ranges of a reply add to the needed list
--- Sorting  heaps and sorted places
 -- Windows  the smallest of the ids that a reply adds
 pub mod Adding
-pub mod Sorting
 pub mod Windows

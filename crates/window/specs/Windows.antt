@@ -1,10 +1,11 @@
 -- For contracts of functions that only our own crates call: the smallest of the ids `all` that a reply adds, from the number f on.
 use Prim.Native.Nat.{ℕ, suc, _+_, _-_, _*_, _≤_, _<_}
 use mathlib.Core.Path.{_≡_}
-use mathlib.Core.Bool.{Bool, true, cond, not}
+use mathlib.Core.Bool.{Bool, true, cond, not, _&&_, _||_}
 use mathlib.Core.List.{List, map}
 use mathlib.Core.Logic.{_⊎_}
-use lib.ListN.{drop, getD}
+use lib.Dec.{leb, ltb}
+use lib.ListN.{take, drop, getD}
 use Rattle.message.specs.Bound.{bigEndian}
 use Rattle.message.specs.Code.{idsIn}
 use Rattle.theory.specs.Table.{has}
@@ -12,22 +13,27 @@ use Rattle.table.specs.Lists.{keep}
 use Rattle.cutting.specs.declared.Span.{Span}
 use Rattle.ends.specs.Lists.{some, same}
 use Rattle.idlist.specs.Positions.{keyAt, Pointing, KeysRise}
-use Rattle.window.specs.Sorting.{Heap}
+use Rattle.index.specs.Sorting.{Heap, Worded}
 use Rattle.window.specs.declared.Window.{Window}
 
 -- the first window is from 0 on, any other from above the id at place `floor`
 abbrev pub fromBy : Bool → ℕ → List ℕ → ℕ
 fromBy first floor m = cond first 0 (suc (bigEndian 32 (drop floor m)))
 
+-- whether the number x belongs to the n smallest from f on: there is room, or it is below the largest
+abbrev pub wants : ℕ → ℕ → ℕ → ℕ → Bool
+wants f x n largest = leb f x && (ltb n 16384 || ltb x largest)
+
 -- the number x is that of one of the first n places, or there is no room for it: it is at least `largest`
 pub data Held (m pos : List ℕ) (n largest : ℕ) (full : Type 0) (x : ℕ) : Type 0 where
   among : (k : ℕ) → k < n → keyAt m pos k ≡ x → Held m pos n largest full x
   beyond : full → largest ≤ x → Held m pos n largest full x
 
--- the n smallest, in a heap where there is no more room
-pub record Gathered (m : List ℕ) (all : List (List ℕ)) (f : ℕ) (pos : List ℕ) (n : ℕ) : Type 0 where
+-- the n smallest, with their words, in a heap where there is no more room
+pub record Gathered (m : List ℕ) (all : List (List ℕ)) (f : ℕ) (words pos : List ℕ) (n : ℕ) : Type 0 where
   pub few : n ≤ 16384
   pub points : Pointing m pos n
+  pub worded : Worded m words pos n
   pub heap : n ≡ 16384 → Heap m pos 0 n
   pub from : (k : ℕ) → k < n → (f ≤ keyAt m pos k) × (has (keyAt m pos k) (map (bigEndian 32) all) ≡ true)
   pub holds : (x : ℕ) → has x (map (bigEndian 32) all) ≡ true → f ≤ x → Held m pos n (keyAt m pos 0) (n ≡ 16384) x
@@ -41,24 +47,33 @@ pub record Windowed (m : List ℕ) (all : List (List ℕ)) (f : ℕ) (pos : List
   pub from : (k : ℕ) → k < w .count → (f ≤ keyAt m pos k) × (has (keyAt m pos k) (map (bigEndian 32) all) ≡ true)
   pub holds : (x : ℕ) → has x (map (bigEndian 32) all) ≡ true → f ≤ x → Held m pos (w .count) (keyAt m pos (w .count - 1)) (w .full ≡ true) x
 
--- whole ids stand at n places, which are in a heap where there is no more room
-pub record Placed (m pos : List ℕ) (n : ℕ) : Type 0 where
+-- whole ids stand at n places, with their words, in a heap where there is no more room
+pub record Placed (m words pos : List ℕ) (n : ℕ) : Type 0 where
   pub few : n ≤ 16384
   pub points : Pointing m pos n
+  pub worded : Worded m words pos n
   pub heap : n ≡ 16384 → Heap m pos 0 n
 
 -- the place p has joined n others, or has taken the place of the first of them where there was no more room
-pub record Offered (m before : List ℕ) (n p : ℕ) (after : List ℕ) (r : ℕ) : Type 0 where
-  pub placed : Placed m after r
+pub record Offered (m before : List ℕ) (n p : ℕ) (words after : List ℕ) (r : ℕ) : Type 0 where
+  pub placed : Placed m words after r
   pub room : n < 16384 → r ≡ n + 1
   pub full : n ≡ 16384 → r ≡ 16384
   pub joined : (j : ℕ) × (j < r) × (getD after j 0 ≡ p)
   pub from : (k : ℕ) → k < r → (getD after k 0 ≡ p) ⊎ ((j : ℕ) × (j < n) × (getD before j 0 ≡ getD after k 0))
   pub kept : (k : ℕ) → k < n → ((j : ℕ) × (j < r) × (getD after j 0 ≡ getD before k 0)) ⊎ ((n ≡ 16384) × (k ≡ 0))
 
+-- the ids of a list that are none of the ids o
+abbrev pub without : List (List ℕ) → List (List ℕ) → List (List ℕ)
+without o l = keep (λ d. not (some (same d) o)) l
+
 -- the ids of a list that no own item of the span has; `own` is the bytes of all own ids
 abbrev pub others : List ℕ → Span → List (List ℕ) → List (List ℕ)
-others own span l = keep (λ d. not (some (same d) (idsIn (span .hi - span .lo) (drop (span .lo * 32) own)))) l
+others own span l = without (idsIn (span .hi - span .lo) (drop (span .lo * 32) own)) l
+
+-- `found` is 1 for each of the first n of `ids` that is one of the ids o, else 0
+abbrev pub FoundIn : List (List ℕ) → List ℕ → List ℕ → ℕ → Type 0
+FoundIn o found ids n = (i : ℕ) → i < n → getD found i 0 ≡ cond (some (same (take 32 (drop (i * 32) ids))) o) 1 0
 
 -- as Gathered, but with the ids `rest` of `all` still to come
 pub record Gathering (m : List ℕ) (all rest : List (List ℕ)) (f : ℕ) (pos : List ℕ) (n : ℕ) : Type 0 where

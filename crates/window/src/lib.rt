@@ -1,20 +1,21 @@
 // The ids that a reply adds to the needed list, in windows: the smallest of them from some id on, as many as have room, rising and without repeats. Each
 // window is a walk over the whole reply. For our own crates.
 use crate::select::gather;
-use crate::sorting::distinct;
-use crate::sorting::sort;
+use index::sorting::distinct;
+use index::sorting::sort;
 ghost use Prim.Native.Nat.{_+_, _≤_};
 ghost use mathlib.Core.Path.{_≡_};
 ghost use mathlib.Core.Bool.{false};
 ghost use lib.ListN.{length};
 ghost use Rattle.table.specs.Code.{lent};
 ghost use Rattle.table.specs.Private.{Passed};
+ghost use Rattle.index.specs.Lookup.{Room};
+ghost use Rattle.index.specs.Sorting.{Worded};
 ghost use Rattle.walk.specs.Walking.{starts, Walking};
 ghost use Rattle.window.specs.Adding.{addedFrom};
 ghost use Rattle.window.specs.Windows.{fromBy, Windowed};
 
 mod select;
-mod sorting;
 
 // How many ids the window has, and whether there may be more behind it.
 pub struct Window {
@@ -22,22 +23,26 @@ pub struct Window {
     pub full: bool,
 }
 
-// The next window: the places of its ids, rising, at the front of `pos`. The ids are those that the reply adds, the smallest of them above the id at place
-// `floor`, or the smallest of all if it is the `first` window.
+// The next window: the places of its ids, rising, at the front of `pos`, and their words at the front of `words`. The ids are those that the reply adds, the
+// smallest of them above the id at place `floor`, or the smallest of all if it is the `first` window. `keys`, `places` and `found` are room for looking ids up.
 pub fn next_window(
     times: &[u64],
     own: &[u8],
     m: &[u8],
     first: bool,
     floor: usize,
+    words: &mut [u64],
     pos: &mut [usize],
+    keys: &mut [u64],
+    places: &mut [usize],
+    found: &mut [u8],
 ) -> Window
-    requires { ⌜ Passed (lent (now times) (now own)) × Walking (lent (now times) (now own)) (now m) starts × (length (now pos) ≡ 16384) × (first ≡ false → floor + 32 ≤ length (now m)) ⌝ }
-    ensures { λ r. ⌜ Windowed (now (m .entry)) (addedFrom (lent (now (times .entry)) (now (own .entry))) (now (m .entry)) starts) (fromBy first floor (now (m .entry))) (now (pos .exit)) r ⌝ }
+    requires { ⌜ Passed (lent (now times) (now own)) × Walking (lent (now times) (now own)) (now m) starts × (length (now words) ≡ 16384) × (length (now pos) ≡ 16384) × (first ≡ false → floor + 32 ≤ length (now m)) × Room (now keys) (now places) (now found) ⌝ }
+    ensures { λ r. ⌜ Windowed (now (m .entry)) (addedFrom (lent (now (times .entry)) (now (own .entry))) (now (m .entry)) starts) (fromBy first floor (now (m .entry))) (now (pos .exit)) r × Worded (now (m .entry)) (now (words .exit)) (now (pos .exit)) (r .count) ⌝ }
 {
-    let count = gather(times, own, m, first, floor, pos);
-    sort(m, pos, count);
-    let distinct = distinct(m, pos, count);
+    let count = gather(times, own, m, first, floor, words, pos, keys, places, found);
+    sort(m, words, pos, count);
+    let distinct = distinct(m, words, pos, count);
     Window {
         count: distinct,
         full: count == 16384,

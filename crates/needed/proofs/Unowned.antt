@@ -81,11 +81,3 @@ pub list-adds-unowned : (T : Table) (m : List ℕ) (w : Walk) (s : Step) → Ste
     → length (addedFrom T m w) ≡ length (others (T .ids) (s .span) (idsIn count (drop at m))) + length (addedFrom T m (s .next))
 list-adds-unowned T m w s k count at e =
     ap length (ids-add-next T m w s k count at e) ∙ length-append (others (T .ids) (s .span) (idsIn count (drop at m))) (addedFrom T m (s .next))
-
--- arrays of a, b and c entries are room for an index and for what is found
-pub room-in : (a b c : ℕ) → 0 < a → 2 * a < b → a ≤ 1048576 → 0 < c → Room (replicate a 0) (replicate b 0) (replicate c 0)
-room-in a b c h k l o =
-    let e = length-replicate {A = ℕ} a 0 in
-    let f = length-replicate {A = ℕ} b 0 in
-    let g = length-replicate {A = ℕ} c 0 in
-    record { some = rw e h; beside = rw (e, f) (omega arith); few = rw e l; noted = rw g o }

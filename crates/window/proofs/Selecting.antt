@@ -297,10 +297,6 @@ pub found-told : (own m : List ℕ) (start owned at count : ℕ) (found : List �
     → FoundIn (idsIn owned (drop start own)) found (drop at m) count
 found-told own m start owned at count found h = rw (part-from own start, part-from m at) at h
 
--- room for looking ids up stays
-pub room-kept : (w p f w' p' f' : List ℕ) → Room w p f → length w' ≡ length w → length p' ≡ length p → length f' ≡ length f → Room w' p' f'
-room-kept w p f w' p' f' r a b c = record { some = rw a (r .some); beside = rw (a, b) (r .beside); few = rw a (r .few); noted = rw c (r .noted) }
-
 -- ---- the ranges of a message
 
 -- the own ids of a span are the bytes of the table there

@@ -1,7 +1,7 @@
 // The smallest ids that a reply adds, from some id on, as many as have room: their places, in a heap once there is no more room.
 use cutting::Span;
+use index::lookup::block;
 use index::lookup::contains_each;
-use index::lookup::smaller;
 use index::sorting::build;
 use index::sorting::sift;
 use message::Payload;
@@ -204,10 +204,11 @@ fn gather_list(
     requires { ⌜ (span .lo ≤ span .hi) × (span .hi * 32 ≤ length (now own)) × (at + count * 32 ≤ length (now m)) × (first ≡ false → floor + 32 ≤ length (now m)) × (length (now words) ≡ 16384) × (length (now pos) ≡ 16384) × Placed (now m) (now words) (now pos) n × Room (now keys) (now places) (now found) ⌝ }
     ensures { λ r. ⌜ Placed (now (m .entry)) (now (words .exit)) (now (pos .exit)) r × ((all rest : List (List ℕ)) → Gathering (now (m .entry)) all (others (now (own .entry)) span (idsIn count (drop at (now (m .entry)))) ++ rest) (fromBy first floor (now (m .entry))) (now (pos .entry)) n → Gathering (now (m .entry)) all rest (fromBy first floor (now (m .entry))) (now (pos .exit)) r) ⌝ }
 {
+    let owned = span.hi - span.lo;
     let mut n = n;
     let mut i = 0;
     while i < count {
-        let part = smaller(count - i, found.len());
+        let part = block(count - i, owned, keys.len(), found.len());
         let p = at + i * 32;
         n = gather_block(
             own,

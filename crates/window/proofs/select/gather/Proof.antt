@@ -12,7 +12,8 @@ use Rattle.index.specs.Lookup.{Room}
 use Rattle.window.specs.Adding.{addedFrom}
 use Rattle.window.specs.Windows.{fromBy, Placed, Gathering}
 use Rattle.window.proofs.Adding.{own-room, ids-inside, skip-adds, fingerprint-adds}
-use Rattle.window.proofs.Selecting.{room-kept, none-placed, none-gathered, none-left, ids-left, ranges-end}
+use Rattle.window.proofs.Selecting.{none-placed, none-gathered, none-left, ids-left, ranges-end}
+use Rattle.index.proofs.Rooms.{room-kept}
 use Rattle.window.proofs.select.gather.Statement.{statement}
 use Rattle.window.proofs.select.gather.Tie as tie
 

@@ -20,7 +20,7 @@ abbrev μ-loop : tie.MeasureT-loop
 
 module _ (c : tie.At-loop Inv-loop μ-loop) where
   abbrev start : tie.Start Inv-loop μ-loop
-  start = c .b8
+  start = c .before .before .before .before .before .before .before .before
 
   room : Room (c .loop .keys) (c .loop .places) (c .loop .found)
   room =
@@ -42,27 +42,27 @@ module _ (c : tie.At-loop Inv-loop μ-loop) where
 
 -- the ids that are looked up together
 record Block (c : tie.After-block Inv-loop μ-loop) : Type 0 where
-  left-over : c .block .result ≤ start (c .b2) .args .count - c .b2 .loop .i
-  room : c .block .result ≤ length (c .b2 .loop .found)
+  left-over : c .block .result ≤ start (c .before .before) .args .count - c .before .before .loop .i
+  room : c .block .result ≤ length (c .before .before .loop .found)
   some : 0 < c .block .result
 
 block : (c : tie.After-block Inv-loop μ-loop) → Block c
 block c =
     let e = c .block .ensures in
-    let g = ranges (c .b2) in
-    record { left-over = e .0; room = e .1; some = e .2 (omega arith) (omega arith) }
+    let g = ranges (c .before .before) in
+    record { left-over = e .0; room = e .1; some = e .2 (omega arith) (room (c .before .before) .some) (omega arith) }
 
 loop-holds : tie.Need-loop-holds Inv-loop μ-loop
 loop-holds c =
-    let a = c .b7 .args in
+    let a = c .before .before .before .before .before .before .before .args in
     (omega arith, omega arith, refl, refl, refl, summing-starts (a .own .now) (a .span .lo * 32) (a .span .hi - a .span .lo) (a .m .now) (a .count) (a .at))
 
 contains-each-requires : tie.Need-contains-each-requires Inv-loop μ-loop
 contains-each-requires c κs =
-    let k = c .b7 in
+    let k = c .before .before .before .before .before .before .before in
     let a = start k .args in
     let g = ranges k in
-    let b = block (c .b5) in
+    let b = block (c .before .before .before .before .before) in
     let r = room k in
     let from = a .span .lo * 32 in
     let at = a .at + k .loop .i * 32 in
@@ -70,28 +70,28 @@ contains-each-requires c κs =
 
 count-not-found-requires : tie.Need-count-not-found-requires Inv-loop μ-loop
 count-not-found-requires c κs =
-    let t = c .b7 .contains-each in
-    let e : length (t .last .1 .1 .1 .1 .1 .1 .0) ≡ length (c .b15 .loop .found) = t .kept .1 .1 .1 .1 .1 .1 .0 in
-    let b = block (c .b13) in
+    let t = c .before .before .before .before .before .before .before .contains-each in
+    let e : length (t .last .1 .1 .1 .1 .1 .1 .0) ≡ length (c .before .before .before .before .before .before .before .before .before .before .before .before .before .before .before .loop .found) = t .kept .1 .1 .1 .1 .1 .1 .0 in
+    let b = block (c .before .before .before .before .before .before .before .before .before .before .before .before .before) in
     omega arith
 
 -- the block counted
-next : (c : tie.After-count-not-found Inv-loop μ-loop) → let k = c .b16 in let a = start k .args in
-    Summing (a .own .now) (a .span .lo * 32) (a .span .hi - a .span .lo) (a .m .now) (a .count) (a .at) (k .loop .sum + c .count-not-found .result) (k .loop .i + c .b14 .block .result)
+next : (c : tie.After-count-not-found Inv-loop μ-loop) → let k = c .before .before .before .before .before .before .before .before .before .before .before .before .before .before .before .before in let a = start k .args in
+    Summing (a .own .now) (a .span .lo * 32) (a .span .hi - a .span .lo) (a .m .now) (a .count) (a .at) (k .loop .sum + c .count-not-found .result) (k .loop .i + c .before .before .before .before .before .before .before .before .before .before .before .before .before .before .block .result)
 next c =
-    let k = c .b16 in
+    let k = c .before .before .before .before .before .before .before .before .before .before .before .before .before .before .before .before in
     let a = start k .args in
-    let t = c .b8 .contains-each in
+    let t = c .before .before .before .before .before .before .before .before .contains-each in
     let g = ranges k in
-    let b = block (c .b14) in
-    summing-block (a .own .now) (a .span .lo * 32) (a .span .hi - a .span .lo) (a .m .now) (a .count) (a .at) (t .last .1 .1 .1 .1 .1 .1 .0) (k .loop .sum) (k .loop .i) (c .b14 .block .result) (c .count-not-found .result) (omega arith) (t .ensures) (c .count-not-found .ensures .1) (k .loop .inv .5)
+    let b = block (c .before .before .before .before .before .before .before .before .before .before .before .before .before .before) in
+    summing-block (a .own .now) (a .span .lo * 32) (a .span .hi - a .span .lo) (a .m .now) (a .count) (a .at) (t .last .1 .1 .1 .1 .1 .1 .0) (k .loop .sum) (k .loop .i) (c .before .before .before .before .before .before .before .before .before .before .before .before .before .before .block .result) (c .count-not-found .result) (omega arith) (t .ensures) (c .count-not-found .ensures .1) (k .loop .inv .5)
 
 loop-again : tie.Need-loop-again Inv-loop μ-loop
 loop-again c =
-    let k = c .b17 in
-    let t = c .b9 .contains-each in
+    let k = c .before .before .before .before .before .before .before .before .before .before .before .before .before .before .before .before .before in
+    let t = c .before .before .before .before .before .before .before .before .before .contains-each in
     let g = ranges k in
-    let b = block (c .b15) in
+    let b = block (c .before .before .before .before .before .before .before .before .before .before .before .before .before .before .before) in
     let n = c .before .count-not-found .ensures .0 in (
       omega arith,
       omega arith,
@@ -104,7 +104,7 @@ loop-again c =
 returns-2 : tie.Need-returns-2 Inv-loop μ-loop
 returns-2 c =
     let l = c .before .loop in
-    let a = c .b9 .args in
+    let a = c .before .before .before .before .before .before .before .before .before .args in
     λ _. summing-ends (a .own .now) (a .span .lo * 32) (a .span .hi - a .span .lo) (a .m .now) (a .count) (a .at) (l .sum) (l .i) (omega arith) (l .inv .5)
 
 pub count-unowned-spec : {M : Type 1} → statement M
@@ -113,28 +113,28 @@ count-unowned-spec =
     (tie.spec
     Inv-loop
     μ-loop
-    (λ c. let o = c .b6 .pre .0 in let h = c .b6 .pre .1 in omega (arith, c .b6 .good))
-    (λ c. c .b7 .pre .0)
+    (λ c. let o = c .before .before .before .before .before .before .pre .0 in let h = c .before .before .before .before .before .before .pre .1 in omega (arith, c .before .before .before .before .before .before .good))
+    (λ c. c .before .before .before .before .before .before .before .pre .0)
     loop-holds
     (λ c. omega arith)
     (λ c κs. tt)
-    (λ c. let g = ranges (c .b2) in omega arith)
-    (λ c. let g = ranges (c .b2) in omega arith)
-    (λ c. let g = ranges (c .b2) in omega arith)
-    (λ c. let g = ranges (c .b2) in search needs)
+    (λ c. let g = ranges (c .before .before) in omega arith)
+    (λ c. let g = ranges (c .before .before) in omega arith)
+    (λ c. let g = ranges (c .before .before) in omega arith)
+    (λ c. let g = ranges (c .before .before) in search needs)
     (λ c. search needs)
-    (λ c. let g = ranges (c .b3) in omega arith)
-    (λ c. let g = ranges (c .b3) in search needs)
+    (λ c. let g = ranges (c .before .before .before) in omega arith)
+    (λ c. let g = ranges (c .before .before .before) in search needs)
     (λ c. search needs)
     contains-each-requires
     count-not-found-requires
-    (λ c. let g = ranges (c .b16) in let b = block (c .b14) in let n = c .count-not-found .ensures .0 in omega arith)
-    (λ c. c .b9 .contains-each .kept .1 .1 .1 .1 .0 ∙ c .b17 .loop .inv .2)
-    (λ c. c .b9 .contains-each .kept .1 .1 .1 .1 .1 .0 ∙ c .b17 .loop .inv .3)
-    (λ c. c .b9 .contains-each .kept .1 .1 .1 .1 .1 .1 .0 ∙ c .b17 .loop .inv .4)
+    (λ c. let g = ranges (c .before .before .before .before .before .before .before .before .before .before .before .before .before .before .before .before) in let b = block (c .before .before .before .before .before .before .before .before .before .before .before .before .before .before) in let n = c .count-not-found .ensures .0 in omega arith)
+    (λ c. c .before .before .before .before .before .before .before .before .before .contains-each .kept .1 .1 .1 .1 .0 ∙ c .before .before .before .before .before .before .before .before .before .before .before .before .before .before .before .before .before .loop .inv .2)
+    (λ c. c .before .before .before .before .before .before .before .before .before .contains-each .kept .1 .1 .1 .1 .1 .0 ∙ c .before .before .before .before .before .before .before .before .before .before .before .before .before .before .before .before .before .loop .inv .3)
+    (λ c. c .before .before .before .before .before .before .before .before .before .contains-each .kept .1 .1 .1 .1 .1 .1 .0 ∙ c .before .before .before .before .before .before .before .before .before .before .before .before .before .before .before .before .before .loop .inv .4)
     (λ c h. absurd (omega arith))
-    (λ c. let g = ranges (c .b17) in let b = block (c .b15) in omega arith)
-    (λ c. let g = ranges (c .b17) in let b = block (c .b15) in omega arith)
+    (λ c. let g = ranges (c .before .before .before .before .before .before .before .before .before .before .before .before .before .before .before .before .before) in let b = block (c .before .before .before .before .before .before .before .before .before .before .before .before .before .before .before) in omega arith)
+    (λ c. let g = ranges (c .before .before .before .before .before .before .before .before .before .before .before .before .before .before .before .before .before) in let b = block (c .before .before .before .before .before .before .before .before .before .before .before .before .before .before .before) in omega arith)
     loop-again
     (λ c. c .before .loop .inv .2)
     (λ c. c .before .loop .inv .3)

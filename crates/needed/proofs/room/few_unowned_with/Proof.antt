@@ -28,7 +28,7 @@ abbrev μ-loop : tie.MeasureT-loop
 
 module _ (c : tie.At-loop Inv-loop μ-loop) where
   abbrev start : tie.Start Inv-loop μ-loop
-  start = c .b8
+  start = c .before .before .before .before .before .before .before .before
 
   abbrev T : Table
   T = lent (start .args .times .now) (start .args .own .now)
@@ -37,38 +37,38 @@ module _ (c : tie.At-loop Inv-loop μ-loop) where
   m = start .args .m .now
 
 loop-holds : tie.Need-loop-holds Inv-loop μ-loop
-loop-holds c = rw (c .start .ensures) (c .b7 .pre .1, omega arith, omega arith, refl, refl, refl)
+loop-holds c = rw (c .start .ensures) (c .before .before .before .before .before .before .before .pre .1, omega arith, omega arith, refl, refl, refl)
 
 -- the walk moves on
-moves : (c : tie.After-step Inv-loop μ-loop) → length (m (c .b3)) - c .step .result .next .cursor .at < length (m (c .b3)) - c .b3 .loop .walk .cursor .at
+moves : (c : tie.After-step Inv-loop μ-loop) → length (m (c .before .before .before)) - c .step .result .next .cursor .at < length (m (c .before .before .before)) - c .before .before .before .loop .walk .cursor .at
 moves c = let t = c .step .ensures in let h = t .moved in let i = t .inside in omega arith
 
 loop-again : tie.Need-loop-again Inv-loop μ-loop
 loop-again c =
-    let k = c .b7 in
+    let k = c .before .before .before .before .before .before .before in
     let l = k .loop in
-    let t = c .b4 .step in
+    let t = c .before .before .before .before .step in
     let v = l .inv in
     let e = ap length (none-adds (T k) (m k) (l .walk) (t .result) (t .ensures) (skip-adds (items (T k)) (lowerAt (l .walk .cursor)) _ (m k) (t .result .payload) (c .enum-told .given .1))) in
     (t .ensures .next, v .1, omega (arith, v .2, e), v .3, v .4, v .5)
 
 loop-again-2 : tie.Need-loop-again-2 Inv-loop μ-loop
 loop-again-2 c =
-    let k = c .b7 in
+    let k = c .before .before .before .before .before .before .before in
     let l = k .loop in
-    let t = c .b4 .step in
+    let t = c .before .before .before .before .step in
     let v = l .inv in
     let e = ap length (none-adds (T k) (m k) (l .walk) (t .result) (t .ensures) (fingerprint-adds (items (T k)) (lowerAt (l .walk .cursor)) _ (m k) (t .result .payload) _ (c .enum-told2 .given .1))) in
     (t .ensures .next, v .1, omega (arith, v .2, e), v .3, v .4, v .5)
 
 count-unowned-requires : tie.Need-count-unowned-requires Inv-loop μ-loop
 count-unowned-requires c κs =
-    let k = c .b11 in
+    let k = c .before .before .before .before .before .before .before .before .before .before .before in
     let l = k .loop in
     let v = l .inv in
     let s = start k in
-    let t = c .b8 .step in
-    let p = c .b4 .payload .given in
+    let t = c .before .before .before .before .before .before .before .before .step in
+    let p = c .before .before .before .before .payload .given in
     let ordered = t .ensures .span .0 in
     let own : t .result .span .lo * 32 + (t .result .span .hi - t .result .span .lo) * 32 ≤ length (s .args .own .now) = own-room (T k) (t .result .span) (s .pre .0) (t .ensures .span) .0 in (
       ordered,
@@ -79,12 +79,12 @@ count-unowned-requires c κs =
 
 loop-again-3 : tie.Need-loop-again-3 Inv-loop μ-loop
 loop-again-3 c =
-    let k = c .b19 in
+    let k = c .before .before .before .before .before .before .before .before .before .before .before .before .before .before .before .before .before .before .before in
     let l = k .loop in
     let v = l .inv in
-    let t = c .b16 .step in
-    let u = c .b7 .count-unowned in
-    let p = c .b12 .payload .given in
+    let t = c .before .before .before .before .before .before .before .before .before .before .before .before .before .before .before .before .step in
+    let u = c .before .before .before .before .before .before .before .count-unowned in
+    let p = c .before .before .before .before .before .before .before .before .before .before .before .before .payload .given in
     let f = list-adds-unowned (T k) (m k) (l .walk) (t .result) (t .ensures) (p .0 .0) (p .0 .1 .0) (p .1) in
     let n = u .ensures (omega arith) in (
       t .ensures .next,
@@ -97,7 +97,7 @@ loop-again-3 c =
 
 returns-2 : tie.Need-returns-2 Inv-loop μ-loop
 returns-2 c =
-    let k = c .b2 in
+    let k = c .before .before in
     let l = k .loop in
     let e = ap length (added-ends (T k) (m k) (l .walk) (c .if1 .left)) in
     λ _. omega (arith, l .inv .2, e)
@@ -110,22 +110,22 @@ few-unowned-with-spec =
     μ-loop
     (λ c κs. tt)
     loop-holds
-    (λ c κs. (c .b10 .pre .0, c .b2 .loop .inv .0, c .if1 .taken))
+    (λ c κs. (c .before .before .before .before .before .before .before .before .before .before .pre .0, c .before .before .loop .inv .0, c .if1 .taken))
     (λ c. search needs)
-    (λ c. moves (c .b4))
+    (λ c. moves (c .before .before .before .before))
     loop-again
     (λ c. search needs)
-    (λ c. moves (c .b4))
+    (λ c. moves (c .before .before .before .before))
     loop-again-2
     (λ c. search needs)
     count-unowned-requires
-    (λ c. c .b7 .count-unowned .kept .1 .1 .1 .1 .1 .1 .0 ∙ c .b19 .loop .inv .3)
-    (λ c. c .b7 .count-unowned .kept .1 .1 .1 .1 .1 .1 .1 .0 ∙ c .b19 .loop .inv .4)
-    (λ c. c .b7 .count-unowned .kept .1 .1 .1 .1 .1 .1 .1 .1 .0 ∙ c .b19 .loop .inv .5)
+    (λ c. c .before .before .before .before .before .before .before .count-unowned .kept .1 .1 .1 .1 .1 .1 .0 ∙ c .before .before .before .before .before .before .before .before .before .before .before .before .before .before .before .before .before .before .before .loop .inv .3)
+    (λ c. c .before .before .before .before .before .before .before .count-unowned .kept .1 .1 .1 .1 .1 .1 .1 .0 ∙ c .before .before .before .before .before .before .before .before .before .before .before .before .before .before .before .before .before .before .before .loop .inv .4)
+    (λ c. c .before .before .before .before .before .before .before .count-unowned .kept .1 .1 .1 .1 .1 .1 .1 .1 .0 ∙ c .before .before .before .before .before .before .before .before .before .before .before .before .before .before .before .before .before .before .before .loop .inv .5)
     (λ c e. clash e refl)
-    (λ c. moves (c .b16))
+    (λ c. moves (c .before .before .before .before .before .before .before .before .before .before .before .before .before .before .before .before))
     loop-again-3
-    (λ c. c .b2 .loop .inv .3)
-    (λ c. c .b2 .loop .inv .4)
-    (λ c. c .b2 .loop .inv .5)
+    (λ c. c .before .before .loop .inv .3)
+    (λ c. c .before .before .loop .inv .4)
+    (λ c. c .before .before .loop .inv .5)
     returns-2)

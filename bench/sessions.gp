@@ -9,11 +9,11 @@ array cases[7] = ["equal tables", "1 different", "100 different", "10 % differen
 array colours[7] = ["#000000", "#0072b2", "#56b4e9", "#009e73", "#d55e00", "#cc79a7", "#b8860b"]
 ways = "library reference"
 
-# The total of a session, if the row is one of this case, call and implementation.
-is_total(case, call, way) = strcol(1) eq case && strcol(3) eq call && strcol(4) eq way && strcol(5) eq "all" && strcol(11) eq "measured"
-total(case, call, way) = is_total(case, call, way) ? $9 : NaN
+# The total of a session with lists of 64, if the row is one of this case, call and implementation.
+is_total(case, call, way) = strcol(1) eq "64" && strcol(2) eq case && strcol(4) eq call && strcol(5) eq way && strcol(6) eq "all" && strcol(12) eq "measured"
+total(case, call, way) = is_total(case, call, way) ? $10 : NaN
 
-stats csv skip 1 using 2 name "n" nooutput
+stats csv skip 1 using 3 name "n" nooutput
 set logscale xy
 set xrange [n_min * 0.8 : n_max * 1.25]
 set xtics ("1,000" 1000, "4,096" 4096, "16,384" 16384, "65,536" 65536, "262,144" 262144, "1,048,576" 1048576)
@@ -28,9 +28,9 @@ set multiplot layout 2,2 title "Whole sessions, b = 16, t = 64: proved library a
 do for [panel = 1:3] {
     call = word("open answer take", panel)
     set title word("open answers takes", panel) . (panel == 1 ? "" : " (all of a session)") font ",16"
-    plot for [c = 1:7] for [w = 1:2] csv skip 1 using 2:(total(cases[c], call, word(ways, w))) with linespoints \
+    plot for [c = 1:7] for [w = 1:2] csv skip 1 using 3:(total(cases[c], call, word(ways, w))) with linespoints \
         linewidth 2 linecolor rgb colours[c] dashtype w pointtype (w == 1 ? 7 : 6) pointsize 1.2, \
-        for [c = 1:(panel == 1)] csv skip 1 using 2:(total(cases[c], "limit", "reading")) with lines \
+        for [c = 1:(panel == 1)] csv skip 1 using 3:(total(cases[c], "limit", "reading")) with lines \
         linewidth 3 linecolor rgb "#999999" dashtype 3
 }
 

@@ -4,13 +4,14 @@ use crate::ends::Way;
 use crate::measure::Effort;
 use crate::report::not_run;
 use crate::results::{Call, Measured, Time};
+use recon::Cut;
 
-const HEAD: &str = "case,n,call,implementation,round,calls,bytes_in,bytes_out,seconds,turns,status\n";
+const HEAD: &str = "limit,case,n,call,implementation,round,calls,bytes_in,bytes_out,seconds,turns,status\n";
 
-/// For each case, n, call and implementation a line with the total (round `all`), then one for each round.
-pub fn lines(effort: &Effort, all: &[Measured]) -> String {
+/// For each cut, case, n, call and implementation a line with the total (round `all`), then one for each round.
+pub fn lines(effort: &Effort, all: &[(Cut, Vec<Measured>)]) -> String {
     let mut text = HEAD.to_string();
-    for measured in all {
+    for (limit, measured) in all.iter().flat_map(|(cut, all)| all.iter().map(move |one| (cut.limit, one))) {
         for (call, ways) in [
             (Call::Limit, [Way::Reading, Way::OpenSsl]),
             (Call::Open, [Way::Library, Way::Reference]),
@@ -18,7 +19,7 @@ pub fn lines(effort: &Effort, all: &[Measured]) -> String {
             (Call::Take, [Way::Library, Way::Reference]),
         ] {
             for way in ways {
-                let start = format!("{},{},{},{}", measured.case, measured.n, call.name(), way.name());
+                let start = format!("{},{},{},{},{}", limit, measured.case, measured.n, call.name(), way.name());
                 match measured.times(call, way) {
                     // An opening without fingerprints has no limits.
                     None if call == Call::Limit => (),

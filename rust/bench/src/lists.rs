@@ -1,13 +1,18 @@
 //! Takes of replies that list many ids: some of a session, some one list of all ids.
 
-use crate::cases::{Counts, Order, Tables};
+use crate::cases::Order::{self, Falling, Random, Rising};
+use crate::cases::{Counts, Tables};
 use crate::clock::Clock;
 use crate::ends::{try_take, Buffers, Way};
 use crate::layout::{aligned, duration, grouped, quotient, row};
 use crate::measure::{alternate, Effort, Run};
 use crate::record::Record;
-use crate::results::Call;
+use crate::results::{Call, Series};
 use recon::Cut;
+use std::time::Instant;
+
+use Room::{Ample, Exact, Short};
+use Shape::{OneRange, Session};
 
 /// Where the ids stand.
 #[derive(Clone, Copy, PartialEq)]
@@ -37,7 +42,7 @@ struct List {
     room: Room,
 }
 
-/// Both ways in which most of the lists here are made.
+/// The most items that a table may have.
 const MOST: usize = 1_048_576;
 
 const fn list(both: usize, ours: usize, theirs: usize, limit: usize, shape: Shape, order: Order, room: Room) -> List {
@@ -50,10 +55,6 @@ const fn list(both: usize, ours: usize, theirs: usize, limit: usize, shape: Shap
         room,
     }
 }
-
-use Order::{Falling, Random, Rising};
-use Room::{Ample, Exact, Short};
-use Shape::{OneRange, Session};
 
 const LISTS: [List; 24] = [
     list(65_536, MOST - 65_536, 0, 4096, Session, Random, Ample),
@@ -79,10 +80,15 @@ const LISTS: [List; 24] = [
     list(2048, 2048, MOST - 2048, 64, OneRange, Random, Short),
     list(2048, 2048, MOST - 2048, 64, OneRange, Rising, Short),
     list(2048, 2048, MOST - 2048, 64, OneRange, Falling, Short),
-    list(MOST / 2, MOST / 2, MOST / 2, 64, OneRange, Random, Short),
+    list(65_536, 65_536, 65_536, 64, OneRange, Random, Short),
 ];
 
 impl List {
+    /// How many items both tables have together.
+    fn total(&self) -> usize {
+        2 * self.counts.both + self.counts.ours + self.counts.theirs
+    }
+
     /// The time of all takes, by library and reference.
     fn measured(&self, clock: &Clock, effort: &Effort) -> [f64; 2] {
         let tables = Tables::made(&self.counts, self.order, 7);
@@ -110,9 +116,9 @@ impl List {
         if self.room == Short {
             return refused(&mut run, &ways);
         }
-        let sum = |way: usize, all: &[crate::results::Series]| all[way].times.iter().map(|time| time.seconds).sum();
         let all = run.rounds(Call::Take, &ways);
-        [sum(0, &all), sum(1, &all)]
+        let sum = |series: &Series| series.times.iter().map(|time| time.seconds).sum();
+        [sum(&all[0]), sum(&all[1])]
     }
 
     fn cells(&self, times: [f64; 2]) -> Vec<String> {
@@ -163,20 +169,23 @@ fn refused(run: &mut Run, ways: &[Way]) -> [f64; 2] {
     [times[0].seconds, times[1].seconds]
 }
 
-pub fn text(clock: &Clock, effort: &Effort) -> String {
+/// Measures all, and gives the table.
+pub fn measure_all(clock: &Clock, effort: &Effort) -> String {
     let mut rows = vec![
         row("|||||||takes|takes||"),
         row("ids|order|room for needed|t|opener|responder|both|library|reference|ratio|"),
     ];
-    for list in LISTS.iter().take(env_rows()) {
-        let times = list.measured(clock, effort);
-        rows.push(list.cells(times));
-        eprintln!("{}", rows[rows.len() - 1].join(" "));
+    for list in LISTS.iter().filter(|list| list.total() <= effort.listed) {
+        let start = Instant::now();
+        rows.push(list.cells(list.measured(clock, effort)));
+        let took = start.elapsed().as_secs_f64();
+        eprintln!("{}: {took:.1} s", rows[rows.len() - 1].join(" ").trim_end());
     }
     format!(
-        "Takes of replies that list many ids\n\n\
-         one range: the reply lists all ids of the responder in one range, as it answers an opener without items.\n\n{}",
+        "# Takes of replies that list many ids\n\n\
+         session: all takes of a session. one range: the reply lists all ids of the responder in one range, as it answers an\n\
+         opener without items. Room for needed ids: for all ids of the responder, for just those that are needed, or for one\n\
+         less, so that the take is refused by 11.\n\n{}",
         aligned(3, &rows)
     )
 }
-fn env_rows() -> usize { std::env::var("LISTS").ok().and_then(|s| s.parse().ok()).unwrap_or(99) }

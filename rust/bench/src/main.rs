@@ -1,5 +1,5 @@
 //! Times of whole sessions by the proved library and by the plain reference, on equal tables in one run:
-//! `bench [--quick] [--csv FILE]`. The tables of times go to standard output.
+//! `bench [--quick] [--lists] [--csv FILE]`, with `--lists` only the takes of replies with many ids. The tables of times go to standard output.
 
 mod cases;
 mod clock;
@@ -16,42 +16,48 @@ mod results;
 
 use cases::CASES;
 use clock::Clock;
+use ends::CUTS;
 use measure::{measure, Effort, FULL, QUICK};
+use recon::Cut;
 use results::Measured;
 use std::{env, fs, process, time::Instant};
 
 struct Options {
     effort: Effort,
     csv: Option<String>,
+    /// Only the takes of replies with many ids.
+    lists: bool,
 }
 
 fn options(mut arguments: impl Iterator<Item = String>) -> Option<Options> {
     let mut options = Options {
         effort: FULL,
         csv: None,
+        lists: false,
     };
     while let Some(argument) = arguments.next() {
         match argument.as_str() {
             "--quick" => options.effort = QUICK,
             "--csv" => options.csv = Some(arguments.next()?),
+            "--lists" => options.lists = true,
             _ => return None,
         }
     }
     Some(options)
 }
 
-/// Measures each case, from the smallest n to the largest.
-fn measure_all(effort: &Effort) -> Vec<Measured> {
-    let clock = Clock::new();
+/// Measures each case with this cut, from the smallest n to the largest.
+fn measure_all(clock: &Clock, effort: &Effort, cut: Cut) -> Vec<Measured> {
     let mut all = Vec::new();
     for case in &CASES {
         let first = all.len();
         for &n in effort.sizes {
             let start = Instant::now();
-            let measured = measure(&clock, effort, case, crate::ends::CUTS[0], n, &all[first..]);
+            let measured = measure(clock, effort, case, cut, n, &all[first..]);
             all.push(measured);
             eprintln!(
-                "{}, {} items: {:.1} s",
+                "t = {}, {}, {} items: {:.1} s",
+                cut.limit,
                 case.name,
                 layout::grouped(n),
                 start.elapsed().as_secs_f64()
@@ -62,13 +68,18 @@ fn measure_all(effort: &Effort) -> Vec<Measured> {
 }
 
 fn main() {
-    let Options { effort, csv } = options(env::args().skip(1)).unwrap_or_else(|| {
-        eprintln!("bench [--quick] [--csv FILE]");
+    let Options { effort, csv, lists } = options(env::args().skip(1)).unwrap_or_else(|| {
+        eprintln!("bench [--quick] [--lists] [--csv FILE]");
         process::exit(2)
     });
-    if env::var("LISTS").is_ok() { print!("{}", lists::text(&Clock::new(), &effort)); return; }
-    let all = measure_all(&effort);
-    print!("{}", report::text(&effort, &all));
+    let clock = Clock::new();
+    let listed = lists::measure_all(&clock, &effort);
+    if lists {
+        print!("{listed}");
+        return;
+    }
+    let all = CUTS.map(|cut| (cut, measure_all(&clock, &effort, cut)));
+    print!("{}", report::text(&effort, &all, &listed));
     if let Some(file) = csv {
         fs::write(&file, csv::lines(&effort, &all)).unwrap_or_else(|error| {
             eprintln!("{file}: {error}");

@@ -16,6 +16,8 @@ pub struct Effort {
     pub most_turns: usize,
     /// A call that is predicted to take more seconds is not run.
     pub budget: f64,
+    /// Of the replies with many ids, those of tables with more items together are not taken.
+    pub listed: usize,
 }
 
 pub const FULL: Effort = Effort {
@@ -23,12 +25,14 @@ pub const FULL: Effort = Effort {
     seconds: 0.5,
     most_turns: 40,
     budget: 20.0,
+    listed: usize::MAX,
 };
 pub const QUICK: Effort = Effort {
     sizes: &[1_000, 4_096, 16_384],
     seconds: 0.05,
     most_turns: 5,
     budget: 5.0,
+    listed: 200_000,
 };
 
 /// The fewest turns, unless one takes longer than `LONG` seconds: then there is one turn.
@@ -75,7 +79,6 @@ pub fn measure(clock: &Clock, effort: &Effort, case: &Case, cut: Cut, n: usize, 
     };
     let mut measured = Measured {
         case: case.name,
-        limit: cut.limit,
         n,
         queries: Vec::new(),
         replies: Vec::new(),

@@ -1,7 +1,7 @@
 //! The text: the opening beside its limits, the sessions, and the growth.
 
 use crate::cases::CASES;
-use crate::ends::{Way, CUTS};
+use crate::ends::Way;
 use crate::growth::{growth, FACTOR, SHORTEST};
 use crate::layout::{aligned, duration, grouped, quotient, row};
 use crate::limits::openssl_version;
@@ -9,10 +9,13 @@ use crate::measure::{Effort, FEWEST_TURNS, LONG};
 use crate::results::{Call, Measured};
 use recon::Cut;
 
-pub fn text(effort: &Effort, all: &[Measured]) -> String {
-    let head = head(effort, &openssl_version());
-    let (openings, sessions) = (openings(effort, all), sessions(effort, all));
-    [head, openings, sessions, growth_table(all), faster(all)].join("\n")
+pub fn text(effort: &Effort, all: &[(Cut, Vec<Measured>)], listed: &str) -> String {
+    let mut parts = vec![head(effort, &openssl_version()), listed.to_string()];
+    for (Cut { parts: b, limit }, all) in all {
+        parts.push(format!("# Sessions with b = {b}, t = {limit}\n"));
+        parts.extend([openings(effort, all), sessions(effort, all), growth_table(all), faster(all)]);
+    }
+    parts.join("\n")
 }
 
 /// What stands where calls were predicted to take too long.
@@ -27,12 +30,11 @@ fn head(effort: &Effort, openssl: &str) -> String {
         budget,
         ..
     } = effort;
-    let Cut { parts, limit } = CUTS[0];
     format!(
         "\
 Whole sessions by the proved library and by the plain Rust reference, in one run and on the same inputs.
 
-- Cut at both ends: b = {parts}, t = {limit}. Each table has n items, or none where it is said to be empty.
+- The same cut at both ends. In the sessions each table has n items, or none where it is said to be empty.
 - \"100 different\": of each table, 100 items are not in the other one, at random places.
   Ids are random; times rise, about half of them being that of the item before.
 - Each call of a session is timed by itself, on recorded messages. A time is the least processor time of

@@ -39,8 +39,6 @@ pub struct Series {
 /// A case at one n. What was not run has no series.
 pub struct Measured {
     pub case: &'static str,
-    /// The limit of the cut.
-    pub limit: usize,
     pub n: usize,
     /// The lengths of the queries and of the replies, one for each round; none if the session was not run.
     pub queries: Vec<usize>,

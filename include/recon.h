@@ -7,7 +7,7 @@
    Every call answers for any values. A refused call answers with the number of its refusal, below, and changes nothing. Look at the refusal
    before the session: only an answer without one says that the session went on. What a caller owes
    is what C asks anyway: a pointer points to as many elements as its length says, none of the bytes that a call may write overlap any
-   other that it is handed, and, as in Rust, no pointer is null, not even where its length is 0. A take keeps 128 KiB on the stack. */
+   other that it is handed, and, as in Rust, no pointer is null, not even where its length is 0. A take keeps less than 512 KiB on the stack. */
 #ifndef RECON_H
 #define RECON_H
 

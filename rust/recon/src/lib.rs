@@ -85,7 +85,7 @@ pub fn answer_query(table: Table<'_>, cut: Cut, query: &[u8], out: &mut [u8]) ->
 
 /// Takes a reply: sets the mark 1 on each own item that it shows the other end to lack, joins the ids that the opener lacks to the needed
 /// list at the start of `needed`, and writes the next query at the start of `out`. Where that would say nothing, the session is done, and
-/// nothing is written. The call keeps 128 KiB on the stack.
+/// nothing is written. The call keeps less than 512 KiB on the stack.
 ///
 /// # Errors
 /// Refusals 1 to 12; then no byte has changed, and the session is still the one handed over.

@@ -1,0 +1,79 @@
+/* How much stack a take keeps: at most 512 KiB. It runs on a stack of its own, each byte of which is written before; what is changed afterwards was used. */
+#define _GNU_SOURCE
+#include "recon.h"
+#include <pthread.h>
+#include <stdio.h>
+#include <stdlib.h>
+#include <string.h>
+
+#define OWN 20000
+#define THEIRS 60000
+#define LIMIT ((size_t)512 * 1024)
+#define STACK ((size_t)4 * 1024 * 1024)
+#define UNUSED 0xa5
+
+static uint64_t own_times[OWN], their_times[THEIRS];
+static uint8_t own_ids[32 * OWN], their_ids[32 * THEIRS], marks[OWN], needed[32 * THEIRS];
+static uint8_t query[32 * OWN + 4096], reply[33 * THEIRS + 4096];
+static size_t reply_length, room;
+static recon_session_answer answer;
+
+/* SplitMix64. */
+static uint64_t next(uint64_t *state) {
+    uint64_t z = *state += 0x9e3779b97f4a7c15u;
+    z = (z ^ (z >> 30)) * 0xbf58476d1ce4e5b9u;
+    z = (z ^ (z >> 27)) * 0x94d049bb133111ebu;
+    return z ^ (z >> 31);
+}
+
+static void fill(uint64_t *times, uint8_t *ids, size_t count, uint64_t seed) {
+    for (size_t i = 0; i < count; i++) {
+        times[i] = i;
+        for (size_t k = 0; k < 4; k++) {
+            uint64_t word = next(&seed);
+            memcpy(ids + 32 * i + 8 * k, &word, 8);
+        }
+    }
+}
+
+static void *take(void *unused) {
+    (void)unused;
+    answer = recon_take(own_times, OWN, own_ids, sizeof own_ids, 16, 64, reply, reply_length, answer.session, marks, OWN, needed, 32 * room,
+                        query, sizeof query);
+    return NULL;
+}
+
+/* The bytes of stack that the take of the reply uses, with room for so many needed ids; it must answer this refusal. */
+static size_t used(size_t ids, uint64_t refusal) {
+    room = ids;
+    answer = recon_open(own_times, OWN, own_ids, sizeof own_ids, 16, 64, marks, OWN, needed, 32 * room, query, sizeof query);
+    uint8_t *stack = aligned_alloc(4096, STACK);
+    if (stack == NULL) exit(2);
+    memset(stack, UNUSED, STACK);
+    pthread_attr_t attributes;
+    pthread_t thread;
+    if (pthread_attr_init(&attributes) || pthread_attr_setstack(&attributes, stack, STACK) || pthread_create(&thread, &attributes, take, NULL)
+        || pthread_join(thread, NULL)) {
+        exit(2);
+    }
+    if (answer.refusal != refusal) {
+        printf("the take answers %llu, not %llu\n", (unsigned long long)answer.refusal, (unsigned long long)refusal);
+        exit(1);
+    }
+    size_t untouched = 0;
+    while (untouched < STACK && stack[untouched] == UNUSED) untouched++;
+    free(stack);
+    return STACK - untouched;
+}
+
+int main(void) {
+    fill(own_times, own_ids, OWN, 1);
+    fill(their_times, their_ids, THEIRS, 2);
+    /* The reply to an opener without items: all ids in one range. */
+    recon_session_answer empty = recon_open(own_times, 0, own_ids, 0, 16, 64, marks, 0, needed, 0, query, sizeof query);
+    recon_answer_t all = recon_answer(their_times, THEIRS, their_ids, sizeof their_ids, 16, 64, query, empty.length, reply, sizeof reply);
+    reply_length = all.length;
+    size_t joined = used(THEIRS, 0), refused = used(THEIRS - 1, 11);
+    printf("a take keeps %zu KiB on the stack, one that is refused by 11 %zu KiB\n", joined / 1024, refused / 1024);
+    return joined <= LIMIT && refused <= LIMIT ? 0 : 1;
+}

@@ -119,8 +119,8 @@ next c =
     adding-on (m k) (a .needed .now) (a .batch) _ _ (l .needed) (l .words) (l .pos) (l .batch) _
     (others-last (a .own .now) (first k) (owned k) (m k) (a .count) (a .at) (c .contains-each .last .1 .1 .1 .1 .1 .1 .0) (l .left) (c .before .before .before .before .before .before .block .result) (p .left-over) (c .contains-each .ensures)) (l .inv .7)
 
-add-new-requires : tie.Need-add-new-requires Inv-loop μ-loop
-add-new-requires c κs =
+add-new-down-requires : tie.Need-add-new-down-requires Inv-loop μ-loop
+add-new-down-requires c κs =
     let d = c .before .before .before .before .before .before .before .before .before .before in
     let k = d .before .before .before .before .before .before .before .before in
     let l = k .loop in
@@ -145,7 +145,7 @@ loop-again c =
     let k = d .before .before .before .before .before .before .before .before in
     let l = k .loop in
     let a = start k .args in
-    let t = c .before .before .before .before .before .before .add-new in
+    let t = c .before .before .before .before .before .before .add-new-down in
     let g = ranges k in (
       omega arith,
       t .kept .0 ∙ l .inv .1,
@@ -185,7 +185,7 @@ add-list-down-spec =
     (λ c. let g = ranges (c .before .before .before) in let p = part (c .before) in let h = c .before .before .before .before .before .before .before .before .before .before .before .before .before .before .pre .4 in search needs)
     (λ c. search needs)
     contains-each-requires
-    add-new-requires
+    add-new-down-requires
     (λ c. let p = part (c .before .before .before .before .before .before .before .before .before .before .before .before .before .before .before .before .before .before .before .before .before .before .before) in omega arith)
     loop-again
     (λ c. c .before .loop .inv .1)

@@ -1,14 +1,13 @@
 -- The listed ids that no own item has, counted.
 use Prim.Native.Nat.{ℕ, suc, _+_, _-_, _*_, _≤_, _<_}
 use mathlib.Core.Path.{_≡_, refl, ap, _∙_}
-use mathlib.Core.Bool.{cond}
 use mathlib.Core.List.{List, [], _∷_, _++_}
 use native.Mathlib.Omega.{arith}
 use lib.ListN.{length, take, drop, getD, length-append, replicate, length-replicate}
 use borrow.Author.Tests.{ne-eqb}
 use Rattle.message.specs.Code.{idsIn}
 use Rattle.message.specs.declared.Payload.{Payload}
-use Rattle.index.specs.Lookup.{listed, Room}
+use Rattle.index.specs.Lookup.{Room}
 use Rattle.table.specs.Table.{Table}
 use Rattle.walk.specs.Walking.{Stepped}
 use Rattle.walk.specs.declared.Walk.{Walk}
@@ -17,7 +16,7 @@ use Rattle.window.specs.Adding.{addedFrom}
 use Rattle.window.specs.Windows.{others}
 use Rattle.window.proofs.Adding.{listFrom}
 use Rattle.needed.specs.Batches.{unless, notFound}
-use Rattle.needed.proofs.Batching.{notFoundFrom, not-found-all, not-found-none, not-found-next, unownedIn, others-next, others-all, others-none, ids-add-next}
+use Rattle.needed.proofs.Batching.{notFoundFrom, not-found-all, not-found-none, not-found-next, unownedIn, LookedUp, others-next, others-all, others-none, ids-add-next}
 
 -- ---- the ids of a block
 
@@ -59,8 +58,7 @@ module _ (own : List ℕ) (start owned : ℕ) (m : List ℕ) (count at : ℕ) wh
       let e : length (unownedIn own start owned (idsIn count (drop at m))) ≡ length (unownedIn own start owned (listFrom m count at 0)) = ap length (others-all own start owned m count at) in
       omega (arith, e)
 
-  pub summing-block : (found : List ℕ) (sum i n more : ℕ) → i + n ≤ count
-      → ((j : ℕ) → j < n → getD found j 0 ≡ cond (listed (take (length own - start) (drop start own)) owned (take (length m - (at + i * 32)) (drop (at + i * 32) m)) j) 1 0)
+  pub summing-block : (found : List ℕ) (sum i n more : ℕ) → i + n ≤ count → LookedUp own start owned m (at + i * 32) n found
       → ((l : List ℕ) → more ≡ length (notFound found n l)) → Summing sum i → Summing (sum + more) (i + n)
   summing-block found sum i n more h f e s =
       omega (

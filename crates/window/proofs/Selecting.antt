@@ -1,14 +1,15 @@
 -- The smallest ids so far, by their places: one more is offered, and the ids still to come become fewer.
 use Prim.Native.Nat.{ℕ, zero, suc, _+_, _-_, _*_, _≤_, _<_}
 use mathlib.Core.Path.{_≡_, refl, sym, ap, subst, _∙_}
-use mathlib.Core.Bool.{Bool, true, false, cond, not}
-use mathlib.Core.List.{List, [], _∷_, _++_, map, append-assoc}
+use mathlib.Core.Bool.{Bool, true, false, cond, not, _||_, or-assoc, or-comm}
+use mathlib.Core.List.{List, [], _∷_, _++_, map}
 use mathlib.Core.Logic.{_⊎_, inl, inr, ⊎-elim}
 use native.Mathlib.Nat.{le-refl}
 use native.Mathlib.Omega.{arith}
+use native.Mathlib.Numerals.{add-one}
 use lib.Dec.{leb, ltb, eqb}
-use lib.ListN.{length, take, drop, getD, set}
-use lib.Seq.{getD-set-same, getD-set-other, drop-drop}
+use lib.ListN.{length, take, drop, getD, set, length-drop, length-set, take-append-drop}
+use lib.Seq.{getD-set-same, getD-set-other, length-take-le, take-append-le, drop-append-le, take-at, drop-at}
 use borrow.Author.Tests.{ltb-true, ltb-false, leb-true, leb-false, le-leb, eqb-true, eqb-false, eq-eqb}
 use Rattle.message.specs.Bound.{Bound, bigEndian}
 use Rattle.message.specs.Message.{ids}
@@ -32,11 +33,11 @@ use Rattle.walk.specs.declared.Walk.{Walk}
 use Rattle.walk.specs.declared.Step.{Step}
 use Rattle.idlist.specs.Positions.{keyAt, Pointing}
 use Rattle.window.specs.Adding.{addedFrom}
-use Rattle.index.specs.Lookup.{listed, Room}
+use Rattle.index.specs.Lookup.{listed}
 use Rattle.index.specs.Sorting.{Worded, Heap, Rearranged, Distinct}
-use Rattle.index.proofs.Heaps.{same-key, pointing-kept, keys-kept, keys-from, heap-top}
-use Rattle.window.specs.Windows.{fromBy, wants, Held, among, beyond, Placed, Offered, others, FoundIn, Gathering, Gathered, Windowed}
-use Rattle.window.proofs.Adding.{lacks, list-adds, unowned-is, rangeAdds, added-next, added-ends, listFrom, list-whole, list-none, list-next, ids-parts, keep-append}
+use Rattle.index.proofs.Heaps.{by-same, same-key, pointing-kept, keys-kept, keys-from, heap-top}
+use Rattle.window.specs.Windows.{fromBy, wants, Held, among, beyond, Placed, Offered, others, pickedAt, Picked, Picking, FoundAt, Gathering, Gathered, Windowed}
+use Rattle.window.proofs.Adding.{lacks, list-adds, unowned-is, rangeAdds, added-next, added-ends, listFrom, list-whole, list-none, list-next}
 
 -- the ids as numbers
 abbrev numbers : List (List ℕ) → List ℕ
@@ -233,69 +234,132 @@ module _ (own : List (List ℕ)) (m : List ℕ) (at count : ℕ) where
   unfolding keep
   list-ends i h later = rw (list-none m count at i h) refl
 
-  module _ (i : ℕ) (h : i < count) (all later : List (List ℕ)) (f : ℕ) (words pos : List ℕ) (n : ℕ) (placed : Placed m words pos n)
-      (g : Gathering m all (othersFrom i ++ later) f pos n) where
-    abbrev p : ℕ
-    p = at + i * 32
+-- ---- picked ids
 
+-- the order of the ids still to come does not count
+has-moved : (x : ℕ) (d : List ℕ) (a b : List (List ℕ)) → has x (numbers (a ++ (d ∷ b))) ≡ has x (numbers (d ∷ (a ++ b)))
+unfolding has
+has-moved x d [] b = refl
+has-moved x d (e ∷ a) b =
+    rw (has-moved x d a b)
+    (sym (or-assoc (eqb x (bigEndian 32 e)) (eqb x (bigEndian 32 d)) (has x (numbers (a ++ b))))
+    ∙ ap (λ (q : Bool). q || has x (numbers (a ++ b))) (or-comm (eqb x (bigEndian 32 e)) (eqb x (bigEndian 32 d)))
+    ∙ or-assoc (eqb x (bigEndian 32 d)) (eqb x (bigEndian 32 e)) (has x (numbers (a ++ b))))
+
+moved-first : (m : List ℕ) (all : List (List ℕ)) (d : List ℕ) (a b : List (List ℕ)) (f : ℕ) (pos : List ℕ) (n : ℕ)
+    → Gathering m all (a ++ (d ∷ b)) f pos n → Gathering m all (d ∷ (a ++ b)) f pos n
+moved-first m all d a b f pos n g = record {
+  left = λ x e. g .left x (has-moved x d a b ∙ e);
+  from = g .from;
+  holds = λ x e l. ⊎-elim (λ k. inl (sym (has-moved x d a b) ∙ k)) (λ k. inr k) (g .holds x e l);
+}
+
+picked-last : (m picks : List ℕ) (k : ℕ) → 0 < k → pickedAt m picks k ≡ take 32 (drop (getD picks (k - 1) 0) m) ∷ pickedAt m picks (k - 1)
+unfolding pickedAt
+picked-last m picks zero h = absurd (omega arith)
+picked-last m picks (suc k) h = let e : suc k - 1 ≡ k = omega arith in rw e refl
+
+pub picked-none : (o : List (List ℕ)) (m picks : List ℕ) (k : ℕ) (rest : List (List ℕ)) → k ≡ 0 → keep (lacks o) (pickedAt m picks k) ++ rest ≡ rest
+unfolding keep pickedAt
+picked-none o m picks k rest e = rw e refl
+
+module _ (o : List (List ℕ)) (m : List ℕ) (all rest : List (List ℕ)) (f : ℕ) (pos : List ℕ) (n : ℕ) where
+  -- the next id of a list joins those that are picked
+  pub pick-next : (at count i : ℕ) (ds : List (List ℕ)) → i < count → Gathering m all (keep (lacks o) ds ++ (othersFrom o m at count i ++ rest)) f pos n
+      → Gathering m all (keep (lacks o) (take 32 (drop (at + i * 32) m) ∷ ds) ++ (othersFrom o m at count (i + 1) ++ rest)) f pos n
+  unfolding keep
+  pick-next at count i ds h g =
+      let d = take 32 (drop (at + i * 32) m) in
+      byTest (some (same d) o)
+      (λ e. rw e (rw (list-next m count at i h, e) at g))
+      (λ e. rw e (moved-first m all d (keep (lacks o) ds) (othersFrom o m at count (i + 1) ++ rest) f pos n (rw (list-next m count at i h, e) at g)))
+
+  -- it is passed over where it is not wanted
+  pub pick-none : (words : List ℕ) (p : ℕ) (ds : List (List ℕ)) → Placed m words pos n → (b : Bool) → b ≡ wants f (bigEndian 32 (drop p m)) n (keyAt m pos 0) → b ≡ false
+      → Gathering m all (keep (lacks o) (take 32 (drop p m) ∷ ds) ++ rest) f pos n → Gathering m all (keep (lacks o) ds ++ rest) f pos n
+  unfolding keep
+  pick-none words p ds placed b e t g =
+      byTest (some (same (take 32 (drop p m))) o)
+      (λ q. rw q at g)
+      (λ q. id-unwanted m all p (keep (lacks o) ds ++ rest) f words pos n placed (rw q at g) b e t)
+
+  -- the last of the picked ids comes where v tells that it is no own one
+  module _ (picks : List ℕ) (k : ℕ) (some-left : 0 < k) where
     abbrev d : List ℕ
-    d = take 32 (drop p m)
+    d = take 32 (drop (getD picks (k - 1) 0) m)
 
-    list-own : some (same d) own ≡ true → Gathering m all (othersFrom (i + 1) ++ later) f pos n
+    abbrev before : List (List ℕ)
+    before = keep (lacks o) (pickedAt m picks (k - 1)) ++ rest
+
+    pub picked-step : (v : ℕ) → v ≡ cond (some (same d) o) 1 0 → Gathering m all (keep (lacks o) (pickedAt m picks k) ++ rest) f pos n
+        → Gathering m all (cond (eqb v 0) (d ∷ before) before) f pos n
     unfolding keep
-    list-own e = rw (list-next m count at i h, e) at g
+    picked-step v e g =
+        let h : Gathering m all (keep (lacks o) (d ∷ pickedAt m picks (k - 1)) ++ rest) f pos n = rw (picked-last m picks k some-left) at g in
+        byTest (some (same d) o)
+        (λ t. let z : v ≡ 1 = e ∙ rw t refl in rw z (rw t at h))
+        (λ t. let z : v ≡ 0 = e ∙ rw t refl in rw z (rw t at h))
 
-    list-other : some (same d) own ≡ false → Gathering m all (d ∷ (othersFrom (i + 1) ++ later)) f pos n
-    unfolding keep
-    list-other e = rw (list-next m count at i h, e) at g
+-- one more place
+module _ (m picks : List ℕ) (p : ℕ) where
+  picked-before : (i k : ℕ) → i ≤ k → pickedAt m (set picks k p) i ≡ pickedAt m picks i
+  unfolding pickedAt
+  picked-before zero k h = refl
+  picked-before (suc i) k h = rw (getD-set-other picks k i p 0 (λ e. omega (arith, e)), picked-before i k (omega arith)) refl
 
-    -- the i-th id comes where v tells that it is no own one
-    pub list-step : (v : ℕ) → v ≡ cond (some (same d) own) 1 0 → Gathering m all (cond (eqb v 0) (d ∷ (othersFrom (i + 1) ++ later)) (othersFrom (i + 1) ++ later)) f pos n
-    list-step v e =
-        byTest (some (same d) own)
-        (λ t. let z : v ≡ 1 = e ∙ rw t refl in rw z (list-own t))
-        (λ t. let z : v ≡ 0 = e ∙ rw t refl in rw z (list-other t))
+  pub picked-more : (k : ℕ) → k < length picks → pickedAt m (set picks k p) (k + 1) ≡ take 32 (drop p m) ∷ pickedAt m picks k
+  unfolding pickedAt
+  picked-more k h = rw (add-one k, getD-set-same picks k p 0 h, picked-before k k (le-refl k)) refl
 
-    list-unwanted : wants f (bigEndian 32 (drop p m)) n (keyAt m pos 0) ≡ false → Gathering m all (othersFrom (i + 1) ++ later) f pos n
-    list-unwanted e = byTest (some (same d) own) list-own (λ o. id-unwanted m all p (othersFrom (i + 1) ++ later) f words pos n placed (list-other o) false (sym e) refl)
+pub none-picked : (m bytes picks : List ℕ) → Picked m bytes picks 0
+none-picked m bytes picks = record { few = omega arith; points = λ i l. absurd (omega arith); copied = λ i l. absurd (omega arith) }
 
-  -- what was found of the ids tells which are own ones
-  pub found-at : (found : List ℕ) → FoundIn own found (drop at m) count → (i : ℕ) → i < count → getD found i 0 ≡ cond (some (same (take 32 (drop (at + i * 32) m))) own) 1 0
-  found-at found h i l = let e = drop-drop (i * 32) at m in rw e at (h i l)
+-- an id is written behind k others
+module _ (ids id : List ℕ) (k : ℕ) (wide : k * 32 + 32 ≤ length ids) (whole : 32 ≤ length id) where
+  abbrev pub copiedTo : List ℕ
+  copiedTo = take (k * 32) ids ++ (take 32 id ++ drop (k * 32 + 32) ids)
 
-  -- a part of the list, and what is behind it
-  pub list-part : (i part : ℕ) → i + part ≤ count → (later : List (List ℕ))
-      → othersFrom i ++ later ≡ keep (lacks own) (idsIn part (drop (at + i * 32) m)) ++ (othersFrom (i + part) ++ later)
-  list-part i part h later =
-      let e : count - i ≡ part + (count - (i + part)) = omega arith in
-      let d : at + i * 32 + part * 32 ≡ at + (i + part) * 32 = omega arith in
-      rw (
-        e,
-        ids-parts part (count - (i + part)) (drop (at + i * 32) m),
-        drop-drop (part * 32) (at + i * 32) m,
-        d,
-        keep-append (lacks own) (idsIn part (drop (at + i * 32) m)) (idsIn (count - (i + part)) (drop (at + (i + part) * 32) m)),
-      )
-      (append-assoc (keep (lacks own) (idsIn part (drop (at + i * 32) m))) (keep (lacks own) (idsIn (count - (i + part)) (drop (at + (i + part) * 32) m))) later)
+  copy-here : take 32 (drop (k * 32) copiedTo) ≡ take 32 id
+  copy-here =
+      rw (drop-at (take (k * 32) ids) (take 32 id ++ drop (k * 32 + 32) ids) (k * 32) (length-take-le (k * 32) ids (omega arith)))
+      (take-at (take 32 id) (drop (k * 32 + 32) ids) 32 (length-take-le 32 id whole))
 
-  -- none of the ids is wanted
-  module _ (all later : List (List ℕ)) (f : ℕ) (words pos : List ℕ) (n : ℕ) (placed : Placed m words pos n)
-      (none : (i : ℕ) → i < count → wants f (bigEndian 32 (drop (at + i * 32) m)) n (keyAt m pos 0) ≡ false)
-      (g : Gathering m all (keep (lacks own) (idsIn count (drop at m)) ++ later) f pos n) where
-    passed-to : (i : ℕ) → i ≤ count → Gathering m all (othersFrom i ++ later) f pos n
-    passed-to zero h = rw list-starts at g
-    passed-to (suc i) h =
-        let e : suc i ≡ i + 1 = omega arith in
-        rw e (list-unwanted i (omega arith) all later f words pos n placed (passed-to i (omega arith)) (none i (omega arith)))
+  copy-before : (i : ℕ) → i < k → take 32 (drop (i * 32) copiedTo) ≡ take 32 (drop (i * 32) ids)
+  copy-before i h =
+      let tail = take 32 id ++ drop (k * 32 + 32) ids in
+      let size = length-take-le (k * 32) ids (omega arith) in
+      let cut = length-drop (i * 32) (take (k * 32) ids) in
+      let all = sym (take-append-drop (k * 32) ids) in
+      let other : drop (i * 32) ids ≡ drop (i * 32) (take (k * 32) ids) ++ drop (k * 32) ids =
+      ap (drop (i * 32)) all ∙ drop-append-le (i * 32) (take (k * 32) ids) (drop (k * 32) ids) (omega arith) in
+      ap (take 32) (drop-append-le (i * 32) (take (k * 32) ids) tail (omega arith))
+      ∙ take-append-le 32 (drop (i * 32) (take (k * 32) ids)) tail (omega arith)
+      ∙ sym (ap (take 32) other ∙ take-append-le 32 (drop (i * 32) (take (k * 32) ids)) (drop (k * 32) ids) (omega arith))
 
-    pub list-passed : Gathering m all later f pos n
-    list-passed = rw (list-ends count (le-refl count) later) at (passed-to count (le-refl count))
+  -- and its place behind theirs
+  pub one-picked : (m picks : List ℕ) (p : ℕ) → Picked m ids picks k → k < length picks → p + 32 ≤ length m → id ≡ drop p m → Picked m copiedTo (set picks k p) (k + 1)
+  one-picked m picks p old room inside e = record {
+    few = rw (length-set picks k p) (omega arith);
+    points = λ i l. by-same i k
+        (λ q. rw (q, getD-set-same picks k p 0 room) inside)
+        (λ q. rw (getD-set-other picks k i p 0 q) (old .points i (omega (arith, q))));
+    copied = λ i l. by-same i k
+        (λ q. rw (q, getD-set-same picks k p 0 room) (copy-here ∙ ap (take 32) e))
+        (λ q. rw (getD-set-other picks k i p 0 q) (copy-before i (omega (arith, q)) ∙ old .copied i (omega (arith, q))));
+  }
 
--- what a search for many ids among own ones tells
-pub found-told : (own m : List ℕ) (start owned at count : ℕ) (found : List ℕ)
-    → ((i : ℕ) → i < count → getD found i 0 ≡ cond (listed (take (length own - start) (drop start own)) owned (take (length m - at) (drop at m)) i) 1 0)
-    → FoundIn (idsIn owned (drop start own)) found (drop at m) count
-found-told own m start owned at count found h = rw (part-from own start, part-from m at) at h
+pub picking-kept : (i p f i' p' f' : List ℕ) → Picking i p f → length i' ≡ length i → length p' ≡ length p → length f' ≡ length f → Picking i' p' f'
+picking-kept i p f i' p' f' r a b c =
+    let some : 0 < length p = r .some in
+    let wide : length p * 32 ≤ length i = r .wide in
+    let noted : length p ≤ length f = r .noted in
+    record { some = omega arith; wide = omega arith; noted = omega arith }
+
+-- what was found of the bytes of picked ids is found of the ids
+pub found-told : (own m bytes picks : List ℕ) (start owned count : ℕ) (found : List ℕ) → Picked m bytes picks count
+    → ((i : ℕ) → i < count → getD found i 0 ≡ cond (listed (take (length own - start) (drop start own)) owned bytes i) 1 0)
+    → FoundAt (idsIn owned (drop start own)) found m picks count
+found-told own m bytes picks start owned count found k h i l = rw (part-from own start, k .copied i l) at (h i l)
 
 -- ---- the ranges of a message
 

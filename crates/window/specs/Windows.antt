@@ -1,11 +1,11 @@
 -- For contracts of functions that only our own crates call: the smallest of the ids `all` that a reply adds, from the number f on.
-use Prim.Native.Nat.{ℕ, suc, _+_, _-_, _*_, _≤_, _<_}
+use Prim.Native.Nat.{ℕ, zero, suc, _+_, _-_, _*_, _≤_, _<_}
 use mathlib.Core.Path.{_≡_}
 use mathlib.Core.Bool.{Bool, true, cond, not, _&&_, _||_}
-use mathlib.Core.List.{List, map}
+use mathlib.Core.List.{List, [], _∷_, map}
 use mathlib.Core.Logic.{_⊎_}
 use lib.Dec.{leb, ltb}
-use lib.ListN.{take, drop, getD}
+use lib.ListN.{length, take, drop, getD}
 use Rattle.message.specs.Bound.{bigEndian}
 use Rattle.message.specs.Code.{idsIn}
 use Rattle.theory.specs.Table.{has}
@@ -71,9 +71,26 @@ without o l = keep (λ d. not (some (same d) o)) l
 abbrev pub others : List ℕ → Span → List (List ℕ) → List (List ℕ)
 others own span l = without (idsIn (span .hi - span .lo) (drop (span .lo * 32) own)) l
 
--- `found` is 1 for each of the first n of `ids` that is one of the ids o, else 0
-abbrev pub FoundIn : List (List ℕ) → List ℕ → List ℕ → ℕ → Type 0
-FoundIn o found ids n = (i : ℕ) → i < n → getD found i 0 ≡ cond (some (same (take 32 (drop (i * 32) ids))) o) 1 0
+-- the ids at the first n of some places, the last of them first
+unfoldable pub pickedAt : List ℕ → List ℕ → ℕ → List (List ℕ)
+pickedAt m picks zero = []
+pickedAt m picks (suc n) = take 32 (drop (getD picks n 0) m) ∷ pickedAt m picks n
+
+-- whole ids stand at the first n of some places, and their bytes one after the other in `ids`
+pub record Picked (m ids picks : List ℕ) (n : ℕ) : Type 0 where
+  pub few : n ≤ length picks
+  pub points : Pointing m picks n
+  pub copied : (k : ℕ) → k < n → take 32 (drop (k * 32) ids) ≡ take 32 (drop (getD picks k 0) m)
+
+-- room for the places of ids, for their bytes, and for what is found of them
+pub record Picking (ids picks found : List ℕ) : Type 0 where
+  pub some : 0 < length picks
+  pub wide : length picks * 32 ≤ length ids
+  pub noted : length picks ≤ length found
+
+-- `found` is 1 for each of the first n of some places at which one of the ids o stands, else 0
+abbrev pub FoundAt : List (List ℕ) → List ℕ → List ℕ → List ℕ → ℕ → Type 0
+FoundAt o found m picks n = (k : ℕ) → k < n → getD found k 0 ≡ cond (some (same (take 32 (drop (getD picks k 0) m))) o) 1 0
 
 -- as Gathered, but with the ids `rest` of `all` still to come
 pub record Gathering (m : List ℕ) (all rest : List (List ℕ)) (f : ℕ) (pos : List ℕ) (n : ℕ) : Type 0 where

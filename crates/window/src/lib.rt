@@ -13,7 +13,7 @@ ghost use Rattle.index.specs.Lookup.{Room};
 ghost use Rattle.index.specs.Sorting.{Worded};
 ghost use Rattle.walk.specs.Walking.{starts, Walking};
 ghost use Rattle.window.specs.Adding.{addedFrom};
-ghost use Rattle.window.specs.Windows.{fromBy, Windowed};
+ghost use Rattle.window.specs.Windows.{fromBy, Picking, Windowed};
 
 mod select;
 
@@ -24,7 +24,8 @@ pub struct Window {
 }
 
 // The next window: the places of its ids, rising, at the front of `pos`, and their words at the front of `words`. The ids are those that the reply adds, the
-// smallest of them above the id at place `floor`, or the smallest of all if it is the `first` window. `keys`, `places` and `found` are room for looking ids up.
+// smallest of them above the id at place `floor`, or the smallest of all if it is the `first` window. `keys`, `places`, `found`, `ids` and `picks`
+// are room for looking ids up.
 pub fn next_window(
     times: &[u64],
     own: &[u8],
@@ -36,11 +37,26 @@ pub fn next_window(
     keys: &mut [u64],
     places: &mut [usize],
     found: &mut [u8],
+    ids: &mut [u8],
+    picks: &mut [usize],
 ) -> Window
-    requires { ⌜ Passed (lent (now times) (now own)) × Walking (lent (now times) (now own)) (now m) starts × (length (now words) ≡ 16384) × (length (now pos) ≡ 16384) × (first ≡ false → floor + 32 ≤ length (now m)) × Room (now keys) (now places) (now found) ⌝ }
+    requires { ⌜ Passed (lent (now times) (now own)) × Walking (lent (now times) (now own)) (now m) starts × (length (now words) ≡ 16384) × (length (now pos) ≡ 16384) × (first ≡ false → floor + 32 ≤ length (now m)) × Room (now keys) (now places) (now found) × Picking (now ids) (now picks) (now found) ⌝ }
     ensures { λ r. ⌜ Windowed (now (m .entry)) (addedFrom (lent (now (times .entry)) (now (own .entry))) (now (m .entry)) starts) (fromBy first floor (now (m .entry))) (now (pos .exit)) r × Worded (now (m .entry)) (now (words .exit)) (now (pos .exit)) (r .count) ⌝ }
 {
-    let count = gather(times, own, m, first, floor, words, pos, keys, places, found);
+    let count = gather(
+        times,
+        own,
+        m,
+        first,
+        floor,
+        words,
+        pos,
+        keys,
+        places,
+        found,
+        ids,
+        picks,
+    );
     sort(m, words, pos, count);
     let distinct = distinct(m, words, pos, count);
     Window {

@@ -1,6 +1,5 @@
 // The smallest ids that a reply adds, from some id on, as many as have room: their places, in a heap once there is no more room.
 use cutting::Span;
-use index::lookup::block;
 use index::lookup::contains_each;
 use index::sorting::build;
 use index::sorting::sift;
@@ -8,7 +7,7 @@ use message::Payload;
 use table::compare::id_below;
 use table::compare::word;
 use walk::Walk;
-ghost use Prim.Native.Nat.{ℕ, _+_, _*_, _≤_, _<_};
+ghost use Prim.Native.Nat.{ℕ, _+_, _-_, _*_, _≤_, _<_};
 ghost use mathlib.Core.Path.{_≡_};
 ghost use mathlib.Core.Bool.{false, cond};
 ghost use mathlib.Core.List.{List, _∷_, _++_};
@@ -19,10 +18,16 @@ ghost use Rattle.message.specs.Code.{idsIn};
 ghost use Rattle.table.specs.Code.{lent};
 ghost use Rattle.table.specs.Private.{Passed};
 ghost use Rattle.walk.specs.Walking.{starts, Walking};
-ghost use Rattle.idlist.specs.Positions.{keyAt};
+ghost use Rattle.idlist.specs.Positions.{keyAt, Pointing};
 ghost use Rattle.index.specs.Lookup.{Room};
 ghost use Rattle.window.specs.Adding.{addedFrom};
-ghost use Rattle.window.specs.Windows.{fromBy, wants, Placed, Offered, without, others, FoundIn, Gathering, Gathered};
+ghost use Rattle.window.specs.Windows.{fromBy, wants, Placed, Offered, without, others, pickedAt, Picked, Picking, FoundAt, Gathering, Gathered};
+
+// A list is gone through up to id number `next`, and `count` of its ids are picked.
+struct Picks {
+    next: usize,
+    count: usize,
+}
 
 // Whether the id at place p, whose first eight bytes are v, comes before the one at place q, whose first eight bytes are w.
 fn comes_before(m: &[u8], p: usize, v: u64, q: usize, w: u64) -> bool
@@ -107,10 +112,10 @@ fn offer_unless(
     offer(m, words, pos, n, p)
 }
 
-// The same for those of `count` ids at a place of the reply for which `found` is 0.
-fn offer_new(
+// The same for the first `count` places of `picks`, each with its own byte of `found`.
+fn offer_picked(
     m: &[u8],
-    at: usize,
+    picks: &[usize],
     count: usize,
     found: &[u8],
     first: bool,
@@ -119,51 +124,103 @@ fn offer_new(
     pos: &mut [usize],
     n: usize,
 ) -> usize
-    requires { ⌜ (at + count * 32 ≤ length (now m)) × (count ≤ length (now found)) × (first ≡ false → floor + 32 ≤ length (now m)) × (length (now words) ≡ 16384) × (length (now pos) ≡ 16384) × Placed (now m) (now words) (now pos) n ⌝ }
-    ensures { λ r. ⌜ Placed (now (m .entry)) (now (words .exit)) (now (pos .exit)) r × ((o all rest : List (List ℕ)) → FoundIn o (now (found .entry)) (drop at (now (m .entry))) count → Gathering (now (m .entry)) all (without o (idsIn count (drop at (now (m .entry)))) ++ rest) (fromBy first floor (now (m .entry))) (now (pos .entry)) n → Gathering (now (m .entry)) all rest (fromBy first floor (now (m .entry))) (now (pos .exit)) r) ⌝ }
+    requires { ⌜ (count ≤ length (now picks)) × (count ≤ length (now found)) × Pointing (now m) (now picks) count × (first ≡ false → floor + 32 ≤ length (now m)) × (length (now words) ≡ 16384) × (length (now pos) ≡ 16384) × Placed (now m) (now words) (now pos) n ⌝ }
+    ensures { λ r. ⌜ Placed (now (m .entry)) (now (words .exit)) (now (pos .exit)) r × ((o all rest : List (List ℕ)) → FoundAt o (now (found .entry)) (now (m .entry)) (now (picks .entry)) count → Gathering (now (m .entry)) all (without o (pickedAt (now (m .entry)) (now (picks .entry)) count) ++ rest) (fromBy first floor (now (m .entry))) (now (pos .entry)) n → Gathering (now (m .entry)) all rest (fromBy first floor (now (m .entry))) (now (pos .exit)) r) ⌝ }
 {
     let mut n = n;
-    let mut i = 0;
-    while i < count {
-        let p = at + i * 32;
-        n = offer_unless(m, first, floor, words, pos, n, p, found[i]);
-        i += 1;
+    let mut k = count;
+    while 0 < k {
+        k -= 1;
+        n = offer_unless(m, first, floor, words, pos, n, picks[k], found[k]);
     }
     n
 }
 
-// Whether some of `count` ids at a place of the reply is wanted.
-fn some_wanted(
+// The id that begins a slice, written at a place.
+fn copy_id(ids: &mut [u8], at: usize, id: &[u8])
+    requires { ⌜ (at + 32 ≤ length (now ids)) × (32 ≤ length (now id)) ⌝ }
+    ensures { λ _. ⌜ now (ids .exit) ≡ take at (now (ids .entry)) ++ (take 32 (now (id .entry)) ++ drop (at + 32) (now (ids .entry))) ⌝ }
+{
+    let mut i = 0;
+    while i < 32 {
+        ids[at + i] = id[i];
+        i += 1;
+    }
+}
+
+// Adds the place p to k picked ones where its id is wanted, with the bytes of the id; how many there are then.
+fn pick_id(
+    m: &[u8],
+    first: bool,
+    floor: usize,
+    words: &[u64],
+    pos: &[usize],
+    n: usize,
+    p: usize,
+    ids: &mut [u8],
+    picks: &mut [usize],
+    k: usize,
+) -> usize
+    requires { ⌜ (p + 32 ≤ length (now m)) × (first ≡ false → floor + 32 ≤ length (now m)) × (length (now words) ≡ 16384) × (length (now pos) ≡ 16384) × Placed (now m) (now words) (now pos) n × (k < length (now picks)) × (length (now picks) * 32 ≤ length (now ids)) × Picked (now m) (now ids) (now picks) k ⌝ }
+    ensures { λ r. ⌜ (r ≤ k + 1) × Picked (now (m .entry)) (now (ids .exit)) (now (picks .exit)) r × ((o all rest : List (List ℕ)) → Gathering (now (m .entry)) all (without o (take 32 (drop p (now (m .entry))) ∷ pickedAt (now (m .entry)) (now (picks .entry)) k) ++ rest) (fromBy first floor (now (m .entry))) (now (pos .entry)) n → Gathering (now (m .entry)) all (without o (pickedAt (now (m .entry)) (now (picks .exit)) r) ++ rest) (fromBy first floor (now (m .entry))) (now (pos .entry)) n) ⌝ }
+{
+    if !wanted(m, first, floor, words, pos, n, p) {
+        return k;
+    }
+    copy_id(ids, k * 32, &m[p..]);
+    picks[k] = p;
+    k + 1
+}
+
+// Picks the wanted ids of a list of `count` ids at a place of the reply, from id number `start` on, as many as have room. An id that is not wanted
+// now will not be wanted later in this window either, so it need not be looked up.
+fn pick(
     m: &[u8],
     at: usize,
+    start: usize,
     count: usize,
     first: bool,
     floor: usize,
     words: &[u64],
     pos: &[usize],
     n: usize,
-) -> bool
-    requires { ⌜ (at + count * 32 ≤ length (now m)) × (first ≡ false → floor + 32 ≤ length (now m)) × (length (now words) ≡ 16384) × (length (now pos) ≡ 16384) × Placed (now m) (now words) (now pos) n ⌝ }
-    ensures { λ r. ⌜ (r ≡ false → (i : ℕ) → i < count → wants (fromBy first floor (now (m .entry))) (bigEndian 32 (drop (at + i * 32) (now (m .entry)))) n (keyAt (now (m .entry)) (now (pos .entry)) 0) ≡ false) ⌝ }
+    ids: &mut [u8],
+    picks: &mut [usize],
+) -> Picks
+    requires { ⌜ (at + count * 32 ≤ length (now m)) × (start < count) × (first ≡ false → floor + 32 ≤ length (now m)) × (length (now words) ≡ 16384) × (length (now pos) ≡ 16384) × Placed (now m) (now words) (now pos) n × (0 < length (now picks)) × (length (now picks) * 32 ≤ length (now ids)) ⌝ }
+    ensures { λ r. ⌜ (start < r .next) × (r .next ≤ count) × Picked (now (m .entry)) (now (ids .exit)) (now (picks .exit)) (r .count) × ((o all rest : List (List ℕ)) → Gathering (now (m .entry)) all (without o (idsIn (count - start) (drop (at + start * 32) (now (m .entry)))) ++ rest) (fromBy first floor (now (m .entry))) (now (pos .entry)) n → Gathering (now (m .entry)) all (without o (pickedAt (now (m .entry)) (now (picks .exit)) (r .count)) ++ (without o (idsIn (count - r .next) (drop (at + r .next * 32) (now (m .entry)))) ++ rest)) (fromBy first floor (now (m .entry))) (now (pos .entry)) n) ⌝ }
 {
-    let mut i = 0;
-    while i < count {
-        let p = at + i * 32;
-        if wanted(m, first, floor, words, pos, n, p) {
-            return true;
+    let mut next = start;
+    let mut k = 0;
+    while next < count {
+        if picks.len() <= k {
+            return Picks { next, count: k };
         }
-        i += 1;
+        k = pick_id(
+            m,
+            first,
+            floor,
+            words,
+            pos,
+            n,
+            at + next * 32,
+            ids,
+            picks,
+            k,
+        );
+        next += 1;
     }
-    false
+    Picks { next, count: k }
 }
 
-// As `gather_list`, for no more ids than `found` has room for. They are looked up among the own ids only where some of them is wanted.
-fn gather_block(
+// Takes in those of `count` picked ids that are still wanted and that no own item of the range has.
+fn offer_others(
     own: &[u8],
     m: &[u8],
     span: Span,
+    ids: &[u8],
+    picks: &[usize],
     count: usize,
-    at: usize,
     first: bool,
     floor: usize,
     words: &mut [u64],
@@ -173,19 +230,20 @@ fn gather_block(
     found: &mut [u8],
     n: usize,
 ) -> usize
-    requires { ⌜ (span .lo ≤ span .hi) × (span .hi * 32 ≤ length (now own)) × (at + count * 32 ≤ length (now m)) × (first ≡ false → floor + 32 ≤ length (now m)) × (length (now words) ≡ 16384) × (length (now pos) ≡ 16384) × Placed (now m) (now words) (now pos) n × Room (now keys) (now places) (now found) × (count ≤ length (now found)) ⌝ }
-    ensures { λ r. ⌜ Placed (now (m .entry)) (now (words .exit)) (now (pos .exit)) r × ((all rest : List (List ℕ)) → Gathering (now (m .entry)) all (others (now (own .entry)) span (idsIn count (drop at (now (m .entry)))) ++ rest) (fromBy first floor (now (m .entry))) (now (pos .entry)) n → Gathering (now (m .entry)) all rest (fromBy first floor (now (m .entry))) (now (pos .exit)) r) ⌝ }
+    requires { ⌜ (span .lo ≤ span .hi) × (span .hi * 32 ≤ length (now own)) × Picked (now m) (now ids) (now picks) count × (first ≡ false → floor + 32 ≤ length (now m)) × (length (now words) ≡ 16384) × (length (now pos) ≡ 16384) × Placed (now m) (now words) (now pos) n × Room (now keys) (now places) (now found) × Picking (now ids) (now picks) (now found) ⌝ }
+    ensures { λ r. ⌜ Placed (now (m .entry)) (now (words .exit)) (now (pos .exit)) r × ((all rest : List (List ℕ)) → Gathering (now (m .entry)) all (others (now (own .entry)) span (pickedAt (now (m .entry)) (now (picks .entry)) count) ++ rest) (fromBy first floor (now (m .entry))) (now (pos .entry)) n → Gathering (now (m .entry)) all rest (fromBy first floor (now (m .entry))) (now (pos .exit)) r) ⌝ }
 {
-    if !some_wanted(m, at, count, first, floor, words, pos, n) {
+    if count == 0 {
         return n;
     }
     let start = span.lo * 32;
     let owned = span.hi - span.lo;
-    contains_each(&own[start..], owned, &m[at..], count, keys, places, found);
-    offer_new(m, at, count, found, first, floor, words, pos, n)
+    contains_each(&own[start..], owned, ids, count, keys, places, found);
+    offer_picked(m, picks, count, found, first, floor, words, pos, n)
 }
 
-// Takes in those of a list of `count` ids at a place of the reply that are wanted and that no own item of the range has.
+// Takes in those of a list of `count` ids at a place of the reply that are wanted and that no own item of the range has. Only wanted ids are looked
+// up among the own ones, as many at a time as `picks` has room for.
 fn gather_list(
     own: &[u8],
     m: &[u8],
@@ -199,23 +257,24 @@ fn gather_list(
     keys: &mut [u64],
     places: &mut [usize],
     found: &mut [u8],
+    ids: &mut [u8],
+    picks: &mut [usize],
     n: usize,
 ) -> usize
-    requires { ⌜ (span .lo ≤ span .hi) × (span .hi * 32 ≤ length (now own)) × (at + count * 32 ≤ length (now m)) × (first ≡ false → floor + 32 ≤ length (now m)) × (length (now words) ≡ 16384) × (length (now pos) ≡ 16384) × Placed (now m) (now words) (now pos) n × Room (now keys) (now places) (now found) ⌝ }
+    requires { ⌜ (span .lo ≤ span .hi) × (span .hi * 32 ≤ length (now own)) × (at + count * 32 ≤ length (now m)) × (first ≡ false → floor + 32 ≤ length (now m)) × (length (now words) ≡ 16384) × (length (now pos) ≡ 16384) × Placed (now m) (now words) (now pos) n × Room (now keys) (now places) (now found) × Picking (now ids) (now picks) (now found) ⌝ }
     ensures { λ r. ⌜ Placed (now (m .entry)) (now (words .exit)) (now (pos .exit)) r × ((all rest : List (List ℕ)) → Gathering (now (m .entry)) all (others (now (own .entry)) span (idsIn count (drop at (now (m .entry)))) ++ rest) (fromBy first floor (now (m .entry))) (now (pos .entry)) n → Gathering (now (m .entry)) all rest (fromBy first floor (now (m .entry))) (now (pos .exit)) r) ⌝ }
 {
-    let owned = span.hi - span.lo;
     let mut n = n;
     let mut i = 0;
     while i < count {
-        let part = block(count - i, owned, keys.len(), found.len());
-        let p = at + i * 32;
-        n = gather_block(
+        let p = pick(m, at, i, count, first, floor, words, pos, n, ids, picks);
+        n = offer_others(
             own,
             m,
             span,
-            part,
-            p,
+            ids,
+            picks,
+            p.count,
             first,
             floor,
             words,
@@ -225,12 +284,12 @@ fn gather_list(
             found,
             n,
         );
-        i += part;
+        i = p.next;
     }
     n
 }
 
-// The same for all that the reply adds: how many places there are. `keys`, `places` and `found` are room for looking ids up.
+// The same for all that the reply adds: how many places there are. `keys`, `places`, `found`, `ids` and `picks` are room for looking ids up.
 pub(crate) fn gather(
     times: &[u64],
     own: &[u8],
@@ -242,8 +301,10 @@ pub(crate) fn gather(
     keys: &mut [u64],
     places: &mut [usize],
     found: &mut [u8],
+    ids: &mut [u8],
+    picks: &mut [usize],
 ) -> usize
-    requires { ⌜ Passed (lent (now times) (now own)) × Walking (lent (now times) (now own)) (now m) starts × (length (now words) ≡ 16384) × (length (now pos) ≡ 16384) × (first ≡ false → floor + 32 ≤ length (now m)) × Room (now keys) (now places) (now found) ⌝ }
+    requires { ⌜ Passed (lent (now times) (now own)) × Walking (lent (now times) (now own)) (now m) starts × (length (now words) ≡ 16384) × (length (now pos) ≡ 16384) × (first ≡ false → floor + 32 ≤ length (now m)) × Room (now keys) (now places) (now found) × Picking (now ids) (now picks) (now found) ⌝ }
     ensures { λ r. ⌜ Gathered (now (m .entry)) (addedFrom (lent (now (times .entry)) (now (own .entry))) (now (m .entry)) starts) (fromBy first floor (now (m .entry))) (now (words .exit)) (now (pos .exit)) r ⌝ }
 {
     let mut n = 0;
@@ -270,6 +331,8 @@ pub(crate) fn gather(
                     keys,
                     places,
                     found,
+                    ids,
+                    picks,
                     n,
                 );
             }

@@ -23,26 +23,26 @@ module _ (c : tie.After-gather) where
   places = c .gather .last .1 .1 .1 .1 .1 .1 .0
 
   wide : length words ≡ 16384
-  wide = c .gather .kept .1 .1 .1 .1 .1 .0 ∙ c .before .before .before .before .before .before .before .before .before .before .before .before .before .before .pre .2
+  wide = c .gather .kept .1 .1 .1 .1 .1 .0 ∙ c .before .before .before .before .before .before .before .before .before .before .before .before .before .before .before .before .before .before .pre .2
 
   long : length places ≡ 16384
-  long = c .gather .kept .1 .1 .1 .1 .1 .1 .0 ∙ c .before .before .before .before .before .before .before .before .before .before .before .before .before .before .pre .3
+  long = c .gather .kept .1 .1 .1 .1 .1 .1 .0 ∙ c .before .before .before .before .before .before .before .before .before .before .before .before .before .before .before .before .before .before .pre .3
 
   fits : (c .gather .result ≤ length words) × (c .gather .result ≤ length places) × (c .gather .result ≤ 1048576)
   fits = let w = wide in let l = long in let h = c .gather .ensures .few in (omega arith, omega arith, omega arith)
 
 sort-requires : tie.Need-sort-requires
-sort-requires c κs = let g = c .before .before .before .before .before .before .before .before .before .before .before .before in let h = fits g in (h .1, h .2, g .gather .ensures .points, h .0, g .gather .ensures .worded)
+sort-requires c κs = let g = c .before .before .before .before .before .before .before .before .before .before .before .before .before .before .before .before in let h = fits g in (h .1, h .2, g .gather .ensures .points, h .0, g .gather .ensures .worded)
 
 distinct-requires : tie.Need-distinct-requires
 distinct-requires c κs =
-    let g = c .before .before .before .before .before .before .before .before .before .before .before .before .before .before .before .before .before .before .before in
+    let g = c .before .before .before .before .before .before .before .before .before .before .before .before .before .before .before .before .before .before .before .before .before .before .before in
     let s = c .before .before .before .before .before .before .sort in
     let h = fits g in
     let l : length (s .last .1 .1 .0) ≡ length (places g) = s .ensures .0 .long in
     let w : length (s .last .1 .0) ≡ length (words g) = s .kept .1 .0 in (
       omega (arith, l, h .1),
-      pointing-kept (c .before .before .before .before .before .before .before .before .before .before .before .before .before .before .before .before .before .before .before .before .before .before .before .before .before .before .before .before .before .before .before .before .before .args .m .now) (places g) (s .last .1 .1 .0) (g .gather .result) (s .ensures .0) (g .gather .ensures .points),
+      pointing-kept (c .before .before .before .before .before .before .before .before .before .before .before .before .before .before .before .before .before .before .before .before .before .before .before .before .before .before .before .before .before .before .before .before .before .before .before .before .before .before .before .before .before .args .m .now) (places g) (s .last .1 .1 .0) (g .gather .result) (s .ensures .0) (g .gather .ensures .points),
       s .ensures .1,
       omega (arith, w, h .0),
       s .ensures .2,
@@ -50,8 +50,8 @@ distinct-requires c κs =
 
 returns : tie.Need-returns
 returns c =
-    let a = c .before .before .before .before .before .before .before .before .before .before .before .before .before .before .before .before .before .before .before .before .before .before .before .before .before .before .before .before .before .before .before .before .before .before .before .before .before .before .args in
-    let g = c .before .before .before .before .before .before .before .before .before .before .before .before .before .before .before .before .before .before .before .before .before .before .before .before in
+    let a = c .before .before .before .before .before .before .before .before .before .before .before .before .before .before .before .before .before .before .before .before .before .before .before .before .before .before .before .before .before .before .before .before .before .before .before .before .before .before .before .before .before .before .before .before .before .before .args in
+    let g = c .before .before .before .before .before .before .before .before .before .before .before .before .before .before .before .before .before .before .before .before .before .before .before .before .before .before .before .before in
     let s = c .before .before .before .before .before .before .before .before .before .before .before .sort in
     let d = c .before .before .before .before .distinct in (
       window-made (a .m .now) (addedFrom (lent (a .times .now) (a .own .now)) (a .m .now) starts) (fromBy (a .first) (a .floor) (a .m .now)) (words g) (places g) (g .gather .result)
@@ -66,6 +66,8 @@ next-window-spec =
     (λ c κs. search needs)
     sort-requires
     distinct-requires
+    (λ c. search needs)
+    (λ c. search needs)
     (λ c. search needs)
     (λ c. search needs)
     (λ c. search needs)

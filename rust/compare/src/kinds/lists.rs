@@ -1,5 +1,6 @@
-//! Replies with more ids than the library sorts at once (16,384): repeats in one list and across ranges, ids of own
-//! items, ids on the needed list already, and rising, falling and mixed orders.
+//! Replies with more ids than the library sorts at once (11,264): repeats in one list and across ranges, ids of own
+//! items, ids on the needed list already, rising, falling and mixed orders, own items fewer and more than are sorted at
+//! once, and ids that differ only behind their first eight bytes.
 use super::Case;
 use crate::calls::Call;
 use crate::compare::Check;
@@ -9,7 +10,7 @@ use crate::rng::Rng;
 use recon::{Cut, Session};
 use reference::{spell, Bound, Payload, Range};
 
-const SORTED_AT_ONCE: usize = 16_384;
+const SORTED_AT_ONCE: usize = 11_264;
 const CUT: Cut = Cut { parts: 2, limit: 2 };
 
 pub fn cases(long: bool) -> u64 {
@@ -23,8 +24,9 @@ pub fn cases(long: bool) -> u64 {
 pub fn run(case: &mut Case<'_, '_>) -> Check {
     let around = case.rng.pick(&[1, 2, 3]) * SORTED_AT_ONCE;
     let count = around + case.rng.below(5) - 2;
-    let own = own_table(&mut case.rng);
-    let fresh: Vec<Id> = (0..count).map(|_| case.rng.id()).collect();
+    let alike = case.rng.below(3) == 0;
+    let own = own_table(&mut case.rng, alike);
+    let fresh: Vec<Id> = (0..count).map(|_| some_id(&mut case.rng, alike)).collect();
     let needed = some_sorted(&mut case.rng, &fresh, count / 10);
     let reply = spell(&ranges(&mut case.rng, &own, &fresh));
     let input = End { table: &own, cut: CUT }.input(Call::Take).with_message(&reply);
@@ -48,9 +50,19 @@ fn session(needed: usize) -> Session {
     }
 }
 
+/// A random id; those that are alike have the same first eight bytes.
+fn some_id(rng: &mut Rng, alike: bool) -> Id {
+    let mut id = rng.id();
+    if alike {
+        id[..8].fill(7);
+    }
+    id
+}
+
 /// Two items for each time.
-fn own_table(rng: &mut Rng) -> OwnedTable {
-    let mut items: Vec<(u64, Id)> = (0..600).map(|number| (number / 2, rng.id())).collect();
+fn own_table(rng: &mut Rng, alike: bool) -> OwnedTable {
+    let count = rng.pick(&[600, 12_000]);
+    let mut items: Vec<(u64, Id)> = (0..count).map(|number| (number / 2, some_id(rng, alike))).collect();
     items.sort_unstable();
     OwnedTable {
         times: items.iter().map(|&(time, _)| time).collect(),

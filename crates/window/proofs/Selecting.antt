@@ -58,9 +58,9 @@ module _ (m : List ℕ) (first : Bool) (floor p : ℕ) where
 
 -- ---- a place joins
 
-module _ (m words pos : List ℕ) (n p v : ℕ) (wide : length words ≡ 11264) (long : length pos ≡ 11264) (placed : Placed m words pos n) (whole : p + 32 ≤ length m)
+module _ (m words pos : List ℕ) (n p v : ℕ) (wide : length words ≡ 11008) (long : length pos ≡ 11008) (placed : Placed m words pos n) (whole : p + 32 ≤ length m)
     (first : v ≡ bigEndian 8 (drop p m)) where
-  module _ (i r : ℕ) (here : i < r) (few : r ≤ 11264) (old : (k : ℕ) → k < r → (k ≡ i → ⊥) → k < n) where
+  module _ (i r : ℕ) (here : i < r) (few : r ≤ 11008) (old : (k : ℕ) → k < r → (k ≡ i → ⊥) → k < n) where
     -- p is put at place number i with its word, and the first r places then move
     put-here : getD (set pos i p) i 0 ≡ p
     put-here = getD-set-same pos i p 0 (omega arith)
@@ -77,9 +77,9 @@ module _ (m words pos : List ℕ) (n p v : ℕ) (wide : length words ≡ 11264) 
         (λ e. rw (eqb-true k i e, put-here, getD-set-same words i v 0 (omega arith)) first)
         (λ e. rw (getD-set-other pos i k p 0 (eqb-false k i e), getD-set-other words i k v 0 (eqb-false k i e)) (placed .worded k (old k l (eqb-false k i e))))
 
-    module _ (later after : List ℕ) (moved : Rearranged (set pos i p) after r) (worded : Worded m later after r) (heap : r ≡ 11264 → Heap m after 0 r) (more : n ≤ r)
-        (gone : i < n → (n ≡ 11264) × (i ≡ 0)) where
-      put-offered : (n < 11264 → r ≡ n + 1) → (n ≡ 11264 → r ≡ 11264) → Offered m pos n p later after r
+    module _ (later after : List ℕ) (moved : Rearranged (set pos i p) after r) (worded : Worded m later after r) (heap : r ≡ 11008 → Heap m after 0 r) (more : n ≤ r)
+        (gone : i < n → (n ≡ 11008) × (i ≡ 0)) where
+      put-offered : (n < 11008 → r ≡ n + 1) → (n ≡ 11008 → r ≡ 11008) → Offered m pos n p later after r
       put-offered room full = record {
         placed = record { few = few; points = pointing-kept m (set pos i p) after r moved put-points; worded = worded; heap = heap };
         room = room;
@@ -94,34 +94,34 @@ module _ (m words pos : List ℕ) (n p v : ℕ) (wide : length words ≡ 11264) 
       }
 
   -- in the first place, where there is no more room
-  module _ (full : n ≡ 11264) where
-    pub first-points : Pointing m (set pos 0 p) 11264
-    first-points = put-points 0 11264 (omega arith) (omega arith) (λ k l e. omega arith)
+  module _ (full : n ≡ 11008) where
+    pub first-points : Pointing m (set pos 0 p) 11008
+    first-points = put-points 0 11008 (omega arith) (omega arith) (λ k l e. omega arith)
 
-    pub first-heap : Heap m (set pos 0 p) 1 11264
+    pub first-heap : Heap m (set pos 0 p) 1 11008
     first-heap k c low a b l =
         let j : c ≡ 0 → ⊥ = λ e. omega arith in
         let i : k ≡ 0 → ⊥ = λ e. omega arith in
         rw (same-key m (set pos 0 p) pos c c (getD-set-other pos 0 c p 0 j), same-key m (set pos 0 p) pos k k (getD-set-other pos 0 k p 0 i))
         (placed .heap full k c (omega arith) a b (omega arith))
 
-    pub first-worded : Worded m (set words 0 v) (set pos 0 p) 11264
-    first-worded = put-worded 0 11264 (omega arith) (omega arith) (λ k l e. omega arith)
+    pub first-worded : Worded m (set words 0 v) (set pos 0 p) 11008
+    first-worded = put-worded 0 11008 (omega arith) (omega arith) (λ k l e. omega arith)
 
-    pub first-offered : (later after : List ℕ) → Rearranged (set pos 0 p) after 11264 → Worded m later after 11264 → Heap m after 0 11264 → Offered m pos n p later after n
+    pub first-offered : (later after : List ℕ) → Rearranged (set pos 0 p) after 11008 → Worded m later after 11008 → Heap m after 0 11008 → Offered m pos n p later after n
     first-offered later after r w h =
         subst (λ (k : ℕ). Offered m pos n p later after k) (sym full)
-        (put-offered 0 11264 (omega arith) (omega arith) (λ k l e. omega arith) later after r w (λ e. h) (omega arith) (λ l. (full, refl)) (λ l. omega arith) (λ e. refl))
+        (put-offered 0 11008 (omega arith) (omega arith) (λ k l e. omega arith) later after r w (λ e. h) (omega arith) (λ l. (full, refl)) (λ l. omega arith) (λ e. refl))
 
   -- behind the others
-  module _ (room : n < 11264) where
+  module _ (room : n < 11008) where
     pub last-points : Pointing m (set pos n p) (n + 1)
     last-points = put-points n (n + 1) (omega arith) (omega arith) (λ k l e. omega (arith, e))
 
     pub last-worded : Worded m (set words n v) (set pos n p) (n + 1)
     last-worded = put-worded n (n + 1) (omega arith) (omega arith) (λ k l e. omega (arith, e))
 
-    pub last-offered : (later after : List ℕ) → Rearranged (set pos n p) after (n + 1) → Worded m later after (n + 1) → (n + 1 ≡ 11264 → Heap m after 0 (n + 1))
+    pub last-offered : (later after : List ℕ) → Rearranged (set pos n p) after (n + 1) → Worded m later after (n + 1) → (n + 1 ≡ 11008 → Heap m after 0 (n + 1))
         → Offered m pos n p later after (n + 1)
     last-offered later after r w h =
         put-offered n (n + 1) (omega arith) (omega arith) (λ k l e. omega (arith, e)) later after r w h (omega arith) (λ l. absurd (omega arith)) (λ l. refl) (λ e. omega arith)
@@ -133,7 +133,7 @@ module _ (m : List ℕ) (all : List (List ℕ)) (d : List ℕ) (later : List (Li
   left-behind x e = g .left x (has-there x (bigEndian 32 d) (numbers later) e)
 
   -- it is passed over where it is below f, or where there is no room for it
-  pub passed : (f ≤ bigEndian 32 d → Held m pos n (keyAt m pos 0) (n ≡ 11264) (bigEndian 32 d)) → Gathering m all later f pos n
+  pub passed : (f ≤ bigEndian 32 d → Held m pos n (keyAt m pos 0) (n ≡ 11008) (bigEndian 32 d)) → Gathering m all later f pos n
   passed h = record {
     left = left-behind;
     from = g .from;
@@ -144,13 +144,13 @@ module _ (m : List ℕ) (all : List (List ℕ)) (d : List ℕ) (later : List (Li
   }
 
   module _ (words : List ℕ) (p : ℕ) (words' after : List ℕ) (r : ℕ) (placed : Placed m words pos n) (here : bigEndian 32 d ≡ bigEndian 32 (drop p m)) (low : f ≤ bigEndian 32 d)
-      (least : n ≡ 11264 → bigEndian 32 d < keyAt m pos 0) (o : Offered m pos n p words' after r) where
+      (least : n ≡ 11008 → bigEndian 32 d < keyAt m pos 0) (o : Offered m pos n p words' after r) where
     key-here : (k : ℕ) → getD after k 0 ≡ p → keyAt m after k ≡ bigEndian 32 d
     unfolding keyAt
     key-here k e = rw e (sym here)
 
     -- the largest does not rise
-    falls : n ≡ 11264 → keyAt m after 0 ≤ keyAt m pos 0
+    falls : n ≡ 11008 → keyAt m after 0 ≤ keyAt m pos 0
     falls e =
         let size = o .full e in
         let h = least e in
@@ -160,7 +160,7 @@ module _ (m : List ℕ) (all : List (List ℕ)) (d : List ℕ) (later : List (Li
         (o .from 0 (omega arith))
 
     -- what is held stays so: only the largest can have gone
-    held : (x : ℕ) → Held m pos n (keyAt m pos 0) (n ≡ 11264) x → Held m after r (keyAt m after 0) (r ≡ 11264) x
+    held : (x : ℕ) → Held m pos n (keyAt m pos 0) (n ≡ 11008) x → Held m after r (keyAt m after 0) (r ≡ 11008) x
     held x (among k l e) =
         ⊎-elim
         (λ q. among (q .0) (q .1) (same-key m after pos (q .0) k (q .2) ∙ e))
@@ -189,20 +189,20 @@ module _ (m : List ℕ) (all : List (List ℕ)) (d : List ℕ) (later : List (Li
 
 -- what the test of an id x tells
 module _ (f x n top : ℕ) where
-  wanted-is : true ≡ wants f x n top → (f ≤ x) × (n ≡ 11264 → x < top)
+  wanted-is : true ≡ wants f x n top → (f ≤ x) × (n ≡ 11008 → x < top)
   wanted-is e =
       byTest (leb f x)
-      (λ a. byTest (ltb n 11264)
-      (λ b. let h = ltb-true n 11264 b in (leb-true f x a, λ q. absurd (omega arith)))
+      (λ a. byTest (ltb n 11008)
+      (λ b. let h = ltb-true n 11008 b in (leb-true f x a, λ q. absurd (omega arith)))
       (λ b. let h : true ≡ ltb x top = rw (a, b) at e in (leb-true f x a, λ q. ltb-true x top (sym h))))
       (λ a. let h : true ≡ false = rw a at e in differ (cc))
 
-  unwanted-is : false ≡ wants f x n top → n ≤ 11264 → f ≤ x → (n ≡ 11264) × (top ≤ x)
+  unwanted-is : false ≡ wants f x n top → n ≤ 11008 → f ≤ x → (n ≡ 11008) × (top ≤ x)
   unwanted-is e few l =
       byTest (leb f x)
-      (λ a. byTest (ltb n 11264)
+      (λ a. byTest (ltb n 11008)
       (λ b. let h : false ≡ true = rw (a, b) at e in differ (cc))
-      (λ b. let h : false ≡ ltb x top = rw (a, b) at e in let k = ltb-false n 11264 b in (omega arith, ltb-false x top (sym h))))
+      (λ b. let h : false ≡ ltb x top = rw (a, b) at e in let k = ltb-false n 11008 b in (omega arith, ltb-false x top (sym h))))
       (λ a. let h = leb-false f x a in absurd (omega arith))
 
 -- the id at place p is passed over, or taken in
@@ -414,17 +414,17 @@ module _ (m : List ℕ) (all : List (List ℕ)) (f : ℕ) (words pos : List ℕ)
   once-kept : (k : ℕ) → k < n → (j : ℕ) × (j < r) × (keyAt m once j ≡ keyAt m pos k)
   once-kept k l = let i = keys-kept m pos sorted n moved k l in let j = d .kept (i .0) (i .1) in (j .0, j .1, j .2 ∙ i .2)
 
-  held-once : (x : ℕ) → Held m pos n (keyAt m pos 0) (n ≡ 11264) x → Held m once r (keyAt m once (r - 1)) (eqb n 11264 ≡ true) x
+  held-once : (x : ℕ) → Held m pos n (keyAt m pos 0) (n ≡ 11008) x → Held m once r (keyAt m once (r - 1)) (eqb n 11008 ≡ true) x
   held-once x (among k l e) = let j = once-kept k l in among (j .0) (j .1) (j .2 ∙ e)
   held-once x (beyond e l) =
       let some = d .some (omega arith) in
       let j = once-from (r - 1) (omega arith) in
-      beyond (eq-eqb n 11264 e) (omega (arith, heap-top m pos n (g .heap e) (j .0) (j .1), j .2))
+      beyond (eq-eqb n 11008 e) (omega (arith, heap-top m pos n (g .heap e) (j .0) (j .1), j .2))
 
-  pub window-made : Windowed m all f once (record { count = r; full = eqb n 11264 })
+  pub window-made : Windowed m all f once (record { count = r; full = eqb n 11008 })
   window-made = record {
     few = omega (arith, d .few, g .few);
-    some = λ e. d .some (omega (arith, eqb-true n 11264 e));
+    some = λ e. d .some (omega (arith, eqb-true n 11008 e));
     points = d .points;
     rises = d .rises;
     from = λ k l. let j = once-from k l in rw (← j .2) (g .from (j .0) (j .1));

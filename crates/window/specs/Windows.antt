@@ -22,7 +22,7 @@ fromBy first floor m = cond first 0 (suc (bigEndian 32 (drop floor m)))
 
 -- whether the number x belongs to the n smallest from f on: there is room, or it is below the largest
 abbrev pub wants : ℕ → ℕ → ℕ → ℕ → Bool
-wants f x n largest = leb f x && (ltb n 11264 || ltb x largest)
+wants f x n largest = leb f x && (ltb n 11008 || ltb x largest)
 
 -- the number x is that of one of the first n places, or there is no room for it: it is at least `largest`
 pub data Held (m pos : List ℕ) (n largest : ℕ) (full : Type 0) (x : ℕ) : Type 0 where
@@ -31,16 +31,16 @@ pub data Held (m pos : List ℕ) (n largest : ℕ) (full : Type 0) (x : ℕ) : T
 
 -- the n smallest, with their words, in a heap where there is no more room
 pub record Gathered (m : List ℕ) (all : List (List ℕ)) (f : ℕ) (words pos : List ℕ) (n : ℕ) : Type 0 where
-  pub few : n ≤ 11264
+  pub few : n ≤ 11008
   pub points : Pointing m pos n
   pub worded : Worded m words pos n
-  pub heap : n ≡ 11264 → Heap m pos 0 n
+  pub heap : n ≡ 11008 → Heap m pos 0 n
   pub from : (k : ℕ) → k < n → (f ≤ keyAt m pos k) × (has (keyAt m pos k) (map (bigEndian 32) all) ≡ true)
-  pub holds : (x : ℕ) → has x (map (bigEndian 32) all) ≡ true → f ≤ x → Held m pos n (keyAt m pos 0) (n ≡ 11264) x
+  pub holds : (x : ℕ) → has x (map (bigEndian 32) all) ≡ true → f ≤ x → Held m pos n (keyAt m pos 0) (n ≡ 11008) x
 
 -- a window: its ids rise strictly, and are all that there are up to its last, or all where it is not full
 pub record Windowed (m : List ℕ) (all : List (List ℕ)) (f : ℕ) (pos : List ℕ) (w : Window) : Type 0 where
-  pub few : w .count ≤ 11264
+  pub few : w .count ≤ 11008
   pub some : w .full ≡ true → 0 < w .count
   pub points : Pointing m pos (w .count)
   pub rises : KeysRise m pos (w .count)
@@ -49,19 +49,19 @@ pub record Windowed (m : List ℕ) (all : List (List ℕ)) (f : ℕ) (pos : List
 
 -- whole ids stand at n places, with their words, in a heap where there is no more room
 pub record Placed (m words pos : List ℕ) (n : ℕ) : Type 0 where
-  pub few : n ≤ 11264
+  pub few : n ≤ 11008
   pub points : Pointing m pos n
   pub worded : Worded m words pos n
-  pub heap : n ≡ 11264 → Heap m pos 0 n
+  pub heap : n ≡ 11008 → Heap m pos 0 n
 
 -- the place p has joined n others, or has taken the place of the first of them where there was no more room
 pub record Offered (m before : List ℕ) (n p : ℕ) (words after : List ℕ) (r : ℕ) : Type 0 where
   pub placed : Placed m words after r
-  pub room : n < 11264 → r ≡ n + 1
-  pub full : n ≡ 11264 → r ≡ 11264
+  pub room : n < 11008 → r ≡ n + 1
+  pub full : n ≡ 11008 → r ≡ 11008
   pub joined : (j : ℕ) × (j < r) × (getD after j 0 ≡ p)
   pub from : (k : ℕ) → k < r → (getD after k 0 ≡ p) ⊎ ((j : ℕ) × (j < n) × (getD before j 0 ≡ getD after k 0))
-  pub kept : (k : ℕ) → k < n → ((j : ℕ) × (j < r) × (getD after j 0 ≡ getD before k 0)) ⊎ ((n ≡ 11264) × (k ≡ 0))
+  pub kept : (k : ℕ) → k < n → ((j : ℕ) × (j < r) × (getD after j 0 ≡ getD before k 0)) ⊎ ((n ≡ 11008) × (k ≡ 0))
 
 -- the ids of a list that are none of the ids o
 abbrev pub without : List (List ℕ) → List (List ℕ) → List (List ℕ)
@@ -96,4 +96,4 @@ FoundAt o found m picks n = (k : ℕ) → k < n → getD found k 0 ≡ cond (som
 pub record Gathering (m : List ℕ) (all rest : List (List ℕ)) (f : ℕ) (pos : List ℕ) (n : ℕ) : Type 0 where
   pub left : (x : ℕ) → has x (map (bigEndian 32) rest) ≡ true → has x (map (bigEndian 32) all) ≡ true
   pub from : (k : ℕ) → k < n → (f ≤ keyAt m pos k) × (has (keyAt m pos k) (map (bigEndian 32) all) ≡ true)
-  pub holds : (x : ℕ) → has x (map (bigEndian 32) all) ≡ true → f ≤ x → (has x (map (bigEndian 32) rest) ≡ true) ⊎ Held m pos n (keyAt m pos 0) (n ≡ 11264) x
+  pub holds : (x : ℕ) → has x (map (bigEndian 32) all) ≡ true → f ≤ x → (has x (map (bigEndian 32) rest) ≡ true) ⊎ Held m pos n (keyAt m pos 0) (n ≡ 11008) x

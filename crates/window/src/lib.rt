@@ -40,7 +40,7 @@ pub fn next_window(
     ids: &mut [u8],
     picks: &mut [usize],
 ) -> Window
-    requires { ⌜ Passed (lent (now times) (now own)) × Walking (lent (now times) (now own)) (now m) starts × (length (now words) ≡ 11264) × (length (now pos) ≡ 11264) × (first ≡ false → floor + 32 ≤ length (now m)) × Room (now keys) (now places) (now found) × Picking (now ids) (now picks) (now found) ⌝ }
+    requires { ⌜ Passed (lent (now times) (now own)) × Walking (lent (now times) (now own)) (now m) starts × (length (now words) ≡ 11008) × (length (now pos) ≡ 11008) × (first ≡ false → floor + 32 ≤ length (now m)) × Room (now keys) (now places) (now found) × Picking (now ids) (now picks) (now found) ⌝ }
     ensures { λ r. ⌜ Windowed (now (m .entry)) (addedFrom (lent (now (times .entry)) (now (own .entry))) (now (m .entry)) starts) (fromBy first floor (now (m .entry))) (now (pos .exit)) r × Worded (now (m .entry)) (now (words .exit)) (now (pos .exit)) (r .count) ⌝ }
 {
     let count = gather(
@@ -61,6 +61,6 @@ pub fn next_window(
     let distinct = distinct(m, words, pos, count);
     Window {
         count: distinct,
-        full: count == 11264,
+        full: count == 11008,
     }
 }

@@ -53,7 +53,7 @@ fn wanted(
     n: usize,
     p: usize,
 ) -> bool
-    requires { ⌜ (p + 32 ≤ length (now m)) × (first ≡ false → floor + 32 ≤ length (now m)) × (length (now words) ≡ 11264) × (length (now pos) ≡ 11264) × Placed (now m) (now words) (now pos) n ⌝ }
+    requires { ⌜ (p + 32 ≤ length (now m)) × (first ≡ false → floor + 32 ≤ length (now m)) × (length (now words) ≡ 11008) × (length (now pos) ≡ 11008) × Placed (now m) (now words) (now pos) n ⌝ }
     ensures { λ r. ⌜ r ≡ wants (fromBy first floor (now (m .entry))) (bigEndian 32 (drop p (now (m .entry)))) n (keyAt (now (m .entry)) (now (pos .entry)) 0) ⌝ }
 {
     let v = word(m, p);
@@ -62,7 +62,7 @@ fn wanted(
             return false;
         }
     }
-    if n < 11264 {
+    if n < 11008 {
         return true;
     }
     comes_before(m, p, v, pos[0], words[0])
@@ -70,21 +70,21 @@ fn wanted(
 
 // Takes the place p in, for the largest where there is no more room; how many places there are then.
 fn offer(m: &[u8], words: &mut [u64], pos: &mut [usize], n: usize, p: usize) -> usize
-    requires { ⌜ (p + 32 ≤ length (now m)) × (length (now words) ≡ 11264) × (length (now pos) ≡ 11264) × Placed (now m) (now words) (now pos) n ⌝ }
+    requires { ⌜ (p + 32 ≤ length (now m)) × (length (now words) ≡ 11008) × (length (now pos) ≡ 11008) × Placed (now m) (now words) (now pos) n ⌝ }
     ensures { λ r. ⌜ Offered (now (m .entry)) (now (pos .entry)) n p (now (words .exit)) (now (pos .exit)) r ⌝ }
 {
     let v = word(m, p);
-    if 11264 <= n {
+    if 11008 <= n {
         words[0] = v;
         pos[0] = p;
-        sift(m, words, pos, 0, 11264);
+        sift(m, words, pos, 0, 11008);
         return n;
     }
     words[n] = v;
     pos[n] = p;
     let more = n + 1;
-    if more == 11264 {
-        build(m, words, pos, 11264);
+    if more == 11008 {
+        build(m, words, pos, 11008);
     }
     more
 }
@@ -100,7 +100,7 @@ fn offer_unless(
     p: usize,
     found: u8,
 ) -> usize
-    requires { ⌜ (p + 32 ≤ length (now m)) × (first ≡ false → floor + 32 ≤ length (now m)) × (length (now words) ≡ 11264) × (length (now pos) ≡ 11264) × Placed (now m) (now words) (now pos) n ⌝ }
+    requires { ⌜ (p + 32 ≤ length (now m)) × (first ≡ false → floor + 32 ≤ length (now m)) × (length (now words) ≡ 11008) × (length (now pos) ≡ 11008) × Placed (now m) (now words) (now pos) n ⌝ }
     ensures { λ r. ⌜ Placed (now (m .entry)) (now (words .exit)) (now (pos .exit)) r × ((all rest : List (List ℕ)) → Gathering (now (m .entry)) all (cond (eqb found 0) (take 32 (drop p (now (m .entry))) ∷ rest) rest) (fromBy first floor (now (m .entry))) (now (pos .entry)) n → Gathering (now (m .entry)) all rest (fromBy first floor (now (m .entry))) (now (pos .exit)) r) ⌝ }
 {
     if found != 0 {
@@ -124,7 +124,7 @@ fn offer_picked(
     pos: &mut [usize],
     n: usize,
 ) -> usize
-    requires { ⌜ (count ≤ length (now picks)) × (count ≤ length (now found)) × Pointing (now m) (now picks) count × (first ≡ false → floor + 32 ≤ length (now m)) × (length (now words) ≡ 11264) × (length (now pos) ≡ 11264) × Placed (now m) (now words) (now pos) n ⌝ }
+    requires { ⌜ (count ≤ length (now picks)) × (count ≤ length (now found)) × Pointing (now m) (now picks) count × (first ≡ false → floor + 32 ≤ length (now m)) × (length (now words) ≡ 11008) × (length (now pos) ≡ 11008) × Placed (now m) (now words) (now pos) n ⌝ }
     ensures { λ r. ⌜ Placed (now (m .entry)) (now (words .exit)) (now (pos .exit)) r × ((o all rest : List (List ℕ)) → FoundAt o (now (found .entry)) (now (m .entry)) (now (picks .entry)) count → Gathering (now (m .entry)) all (without o (pickedAt (now (m .entry)) (now (picks .entry)) count) ++ rest) (fromBy first floor (now (m .entry))) (now (pos .entry)) n → Gathering (now (m .entry)) all rest (fromBy first floor (now (m .entry))) (now (pos .exit)) r) ⌝ }
 {
     let mut n = n;
@@ -161,7 +161,7 @@ fn pick_id(
     picks: &mut [usize],
     k: usize,
 ) -> usize
-    requires { ⌜ (p + 32 ≤ length (now m)) × (first ≡ false → floor + 32 ≤ length (now m)) × (length (now words) ≡ 11264) × (length (now pos) ≡ 11264) × Placed (now m) (now words) (now pos) n × (k < length (now picks)) × (length (now picks) * 32 ≤ length (now ids)) × Picked (now m) (now ids) (now picks) k ⌝ }
+    requires { ⌜ (p + 32 ≤ length (now m)) × (first ≡ false → floor + 32 ≤ length (now m)) × (length (now words) ≡ 11008) × (length (now pos) ≡ 11008) × Placed (now m) (now words) (now pos) n × (k < length (now picks)) × (length (now picks) * 32 ≤ length (now ids)) × Picked (now m) (now ids) (now picks) k ⌝ }
     ensures { λ r. ⌜ (r ≤ k + 1) × Picked (now (m .entry)) (now (ids .exit)) (now (picks .exit)) r × ((o all rest : List (List ℕ)) → Gathering (now (m .entry)) all (without o (take 32 (drop p (now (m .entry))) ∷ pickedAt (now (m .entry)) (now (picks .entry)) k) ++ rest) (fromBy first floor (now (m .entry))) (now (pos .entry)) n → Gathering (now (m .entry)) all (without o (pickedAt (now (m .entry)) (now (picks .exit)) r) ++ rest) (fromBy first floor (now (m .entry))) (now (pos .entry)) n) ⌝ }
 {
     if !wanted(m, first, floor, words, pos, n, p) {
@@ -187,7 +187,7 @@ fn pick(
     ids: &mut [u8],
     picks: &mut [usize],
 ) -> Picks
-    requires { ⌜ (at + count * 32 ≤ length (now m)) × (start < count) × (first ≡ false → floor + 32 ≤ length (now m)) × (length (now words) ≡ 11264) × (length (now pos) ≡ 11264) × Placed (now m) (now words) (now pos) n × (0 < length (now picks)) × (length (now picks) * 32 ≤ length (now ids)) ⌝ }
+    requires { ⌜ (at + count * 32 ≤ length (now m)) × (start < count) × (first ≡ false → floor + 32 ≤ length (now m)) × (length (now words) ≡ 11008) × (length (now pos) ≡ 11008) × Placed (now m) (now words) (now pos) n × (0 < length (now picks)) × (length (now picks) * 32 ≤ length (now ids)) ⌝ }
     ensures { λ r. ⌜ (start < r .next) × (r .next ≤ count) × Picked (now (m .entry)) (now (ids .exit)) (now (picks .exit)) (r .count) × ((o all rest : List (List ℕ)) → Gathering (now (m .entry)) all (without o (idsIn (count - start) (drop (at + start * 32) (now (m .entry)))) ++ rest) (fromBy first floor (now (m .entry))) (now (pos .entry)) n → Gathering (now (m .entry)) all (without o (pickedAt (now (m .entry)) (now (picks .exit)) (r .count)) ++ (without o (idsIn (count - r .next) (drop (at + r .next * 32) (now (m .entry)))) ++ rest)) (fromBy first floor (now (m .entry))) (now (pos .entry)) n) ⌝ }
 {
     let mut next = start;
@@ -230,7 +230,7 @@ fn offer_others(
     found: &mut [u8],
     n: usize,
 ) -> usize
-    requires { ⌜ (span .lo ≤ span .hi) × (span .hi * 32 ≤ length (now own)) × Picked (now m) (now ids) (now picks) count × (first ≡ false → floor + 32 ≤ length (now m)) × (length (now words) ≡ 11264) × (length (now pos) ≡ 11264) × Placed (now m) (now words) (now pos) n × Room (now keys) (now places) (now found) × Picking (now ids) (now picks) (now found) ⌝ }
+    requires { ⌜ (span .lo ≤ span .hi) × (span .hi * 32 ≤ length (now own)) × Picked (now m) (now ids) (now picks) count × (first ≡ false → floor + 32 ≤ length (now m)) × (length (now words) ≡ 11008) × (length (now pos) ≡ 11008) × Placed (now m) (now words) (now pos) n × Room (now keys) (now places) (now found) × Picking (now ids) (now picks) (now found) ⌝ }
     ensures { λ r. ⌜ Placed (now (m .entry)) (now (words .exit)) (now (pos .exit)) r × ((all rest : List (List ℕ)) → Gathering (now (m .entry)) all (others (now (own .entry)) span (pickedAt (now (m .entry)) (now (picks .entry)) count) ++ rest) (fromBy first floor (now (m .entry))) (now (pos .entry)) n → Gathering (now (m .entry)) all rest (fromBy first floor (now (m .entry))) (now (pos .exit)) r) ⌝ }
 {
     if count == 0 {
@@ -261,7 +261,7 @@ fn gather_list(
     picks: &mut [usize],
     n: usize,
 ) -> usize
-    requires { ⌜ (span .lo ≤ span .hi) × (span .hi * 32 ≤ length (now own)) × (at + count * 32 ≤ length (now m)) × (first ≡ false → floor + 32 ≤ length (now m)) × (length (now words) ≡ 11264) × (length (now pos) ≡ 11264) × Placed (now m) (now words) (now pos) n × Room (now keys) (now places) (now found) × Picking (now ids) (now picks) (now found) ⌝ }
+    requires { ⌜ (span .lo ≤ span .hi) × (span .hi * 32 ≤ length (now own)) × (at + count * 32 ≤ length (now m)) × (first ≡ false → floor + 32 ≤ length (now m)) × (length (now words) ≡ 11008) × (length (now pos) ≡ 11008) × Placed (now m) (now words) (now pos) n × Room (now keys) (now places) (now found) × Picking (now ids) (now picks) (now found) ⌝ }
     ensures { λ r. ⌜ Placed (now (m .entry)) (now (words .exit)) (now (pos .exit)) r × ((all rest : List (List ℕ)) → Gathering (now (m .entry)) all (others (now (own .entry)) span (idsIn count (drop at (now (m .entry)))) ++ rest) (fromBy first floor (now (m .entry))) (now (pos .entry)) n → Gathering (now (m .entry)) all rest (fromBy first floor (now (m .entry))) (now (pos .exit)) r) ⌝ }
 {
     let mut n = n;
@@ -304,7 +304,7 @@ pub(crate) fn gather(
     ids: &mut [u8],
     picks: &mut [usize],
 ) -> usize
-    requires { ⌜ Passed (lent (now times) (now own)) × Walking (lent (now times) (now own)) (now m) starts × (length (now words) ≡ 11264) × (length (now pos) ≡ 11264) × (first ≡ false → floor + 32 ≤ length (now m)) × Room (now keys) (now places) (now found) × Picking (now ids) (now picks) (now found) ⌝ }
+    requires { ⌜ Passed (lent (now times) (now own)) × Walking (lent (now times) (now own)) (now m) starts × (length (now words) ≡ 11008) × (length (now pos) ≡ 11008) × (first ≡ false → floor + 32 ≤ length (now m)) × Room (now keys) (now places) (now found) × Picking (now ids) (now picks) (now found) ⌝ }
     ensures { λ r. ⌜ Gathered (now (m .entry)) (addedFrom (lent (now (times .entry)) (now (own .entry))) (now (m .entry)) starts) (fromBy first floor (now (m .entry))) (now (words .exit)) (now (pos .exit)) r ⌝ }
 {
     let mut n = 0;

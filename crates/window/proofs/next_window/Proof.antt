@@ -22,10 +22,10 @@ module _ (c : tie.After-gather) where
   abbrev places : List ℕ
   places = c .gather .last .1 .1 .1 .1 .1 .1 .0
 
-  wide : length words ≡ 11264
+  wide : length words ≡ 11008
   wide = c .gather .kept .1 .1 .1 .1 .1 .0 ∙ c .before .before .before .before .before .before .before .before .before .before .before .before .before .before .before .before .before .before .pre .2
 
-  long : length places ≡ 11264
+  long : length places ≡ 11008
   long = c .gather .kept .1 .1 .1 .1 .1 .1 .0 ∙ c .before .before .before .before .before .before .before .before .before .before .before .before .before .before .before .before .before .before .pre .3
 
   fits : (c .gather .result ≤ length words) × (c .gather .result ≤ length places) × (c .gather .result ≤ 1048576)

@@ -10,7 +10,7 @@ use Rattle.window.proofs.select.offer.Statement.{statement}
 use Rattle.window.proofs.select.offer.Tie as tie
 
 -- there is no more room
-full : (c : tie.Then1) → c .before .before .before .before .before .args .n ≡ 11264
+full : (c : tie.Then1) → c .before .before .before .before .before .args .n ≡ 11008
 full c = let h = c .before .before .before .before .before .pre .3 .few in let t = c .if1 .taken in omega arith
 
 sift-requires : tie.Need-sift-requires
@@ -50,8 +50,8 @@ build-requires c κs =
     let a = s .args in
     let p = s .pre in
     let w = c .before .before .before .before .word in
-    let e : a .n + 1 ≡ 11264 = c .before .before .if2 .taken in
-    let h : a .n < 11264 = c .before .before .before .if1 .left in (
+    let e : a .n + 1 ≡ 11008 = c .before .before .if2 .taken in
+    let h : a .n < 11008 = c .before .before .before .if1 .left in (
       simp length-set (omega arith),
       omega arith,
       rw e at (last-points (a .m .now) (a .words .now) (a .pos .now) (a .n) (a .p) (w .result) (p .1) (p .2) (p .3) (p .0) (w .ensures) h),
@@ -71,8 +71,8 @@ returns-2 c =
     let a = s .args in
     let p = s .pre in
     let w = c .before .before .before .before .before .before .before .before .before .word in
-    let e : a .n + 1 ≡ 11264 = c .before .before .before .before .before .before .before .if2 .taken in
-    let h : a .n < 11264 = c .before .before .before .before .before .before .before .before .if1 .left in
+    let e : a .n + 1 ≡ 11008 = c .before .before .before .before .before .before .before .if2 .taken in
+    let h : a .n < 11008 = c .before .before .before .before .before .before .before .before .if1 .left in
     let r = c .before .before .before .before .build in
     last-offered (a .m .now) (a .words .now) (a .pos .now) (a .n) (a .p) (w .result) (p .1) (p .2) (p .3) (p .0) (w .ensures) h (r .last .1 .0) (r .last .1 .1 .0) (rw e (r .ensures .0)) (rw e (r .ensures .2)) (λ _. rw e (r .ensures .1))
 
@@ -82,7 +82,7 @@ returns-3 c =
     let a = s .args in
     let p = s .pre in
     let w = c .before .before .word in
-    let h : a .n < 11264 = c .before .if1 .left in
+    let h : a .n < 11008 = c .before .if1 .left in
     last-offered (a .m .now) (a .words .now) (a .pos .now) (a .n) (a .p) (w .result) (p .1) (p .2) (p .3) (p .0) (w .ensures) h _ _ (rearranged-none _ _)
     (last-worded (a .m .now) (a .words .now) (a .pos .now) (a .n) (a .p) (w .result) (p .1) (p .2) (p .3) (p .0) (w .ensures) h) (λ e. absurd (c .if2 .left e))
 

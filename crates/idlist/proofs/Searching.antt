@@ -1,19 +1,23 @@
 -- Comparing byte by byte, and searching id by id.
-use Prim.Native.Nat.{ℕ, suc, _+_, _-_, _*_, _≤_, _<_}
+use Prim.Native.Nat.{ℕ, zero, suc, _+_, _-_, _*_, _≤_, _<_}
 use mathlib.Core.Path.{_≡_, refl, sym, ap, _∙_}
 use mathlib.Core.Bool.{Bool, true, false, _&&_, _||_}
 use mathlib.Core.List.{List, [], _∷_}
 use native.Mathlib.Omega.{arith}
-use lib.Dec.{eqb}
+use lib.Dec.{eqb, ltb}
 use lib.ListN.{length, take, drop, getD, drop-of-length-le}
 use lib.Seq.{drop-cons, drop-drop, take-take}
-use borrow.Author.Tests.{eq-eqb, ne-eqb}
+use borrow.Author.Tests.{eq-eqb, ne-eqb, eqb-true, eqb-false, lt-ltb, le-ltb}
 use Rattle.message.specs.Bound.{bigEndian}
 use Rattle.message.specs.Code.{idsIn}
 use Rattle.message.proofs.Exact.{byTest}
 use Rattle.table.proofs.Words.{bigEndian-take}
 use Rattle.ends.specs.Lists.{some, same}
 use Rattle.ends.proofs.Tables.{same-true}
+
+or-true : (b : Bool) → (b || true) ≡ true
+or-true true = refl
+or-true false = refl
 
 and-false : (b : Bool) → (b && false) ≡ false
 and-false true = refl
@@ -78,3 +82,29 @@ module _ (d list : List ℕ) (count i : ℕ) where
   pub no-id : count ≤ i → left d list count i ≡ false
   unfolding some idsIn
   no-id h = let e : count - i ≡ 0 = omega arith in rw e refl
+
+module _ (d list : List ℕ) (count : ℕ) where
+  -- an id that stands at place i is found from any place before it
+  found-from : (n j i : ℕ) → j + n ≡ i → i < count → same d (take 32 (drop (i * 32) list)) ≡ true → left d list count j ≡ true
+  found-from zero j i e h s = let q : j ≡ i = omega arith in rw q (id-found d list count i h s)
+  found-from (suc n) j i e h s =
+      let rest = found-from n (j + 1) i (omega arith) h s in
+      more d list count j (omega arith) ∙ rw rest (or-true (same d (take 32 (drop (j * 32) list))))
+
+  none-from : (n i : ℕ) → i + n ≡ count → ((j : ℕ) → i ≤ j → j < count → same d (take 32 (drop (j * 32) list)) ≡ false) → left d list count i ≡ false
+  none-from zero i e none = no-id d list count i (omega arith)
+  none-from (suc n) i e none = id-other d list count i (omega arith) (none i (omega arith) (omega arith)) ∙ none-from n (i + 1) (omega arith) (λ j h. none j (omega arith))
+
+  pub stands-here : (i : ℕ) → i < count → same d (take 32 (drop (i * 32) list)) ≡ true → ltb i count ≡ some (same d) (idsIn count list)
+  stands-here i h s = lt-ltb i count h ∙ sym (all-left d list count ∙ found-from i 0 i (omega arith) h s)
+
+  pub stands-nowhere : ((j : ℕ) → j < count → same d (take 32 (drop (j * 32) list)) ≡ false) → ltb count count ≡ some (same d) (idsIn count list)
+  stands-nowhere none = le-ltb count count (omega arith) ∙ sym (all-left d list count ∙ none-from count 0 (omega arith) (λ j h. none j))
+
+-- the ids from place `from` up to place i are others, and the next one is
+pub others-next : (d list : List ℕ) (from i : ℕ) → ((j : ℕ) → from ≤ j → j < i → same d (take 32 (drop (j * 32) list)) ≡ false) → same d (take 32 (drop (i * 32) list)) ≡ false
+    → (j : ℕ) → from ≤ j → j < i + 1 → same d (take 32 (drop (j * 32) list)) ≡ false
+others-next d list from i others e j h l =
+    byTest (eqb j i)
+    (λ q. rw (eqb-true j i q) e)
+    (λ q. others j h (omega (arith, eqb-false j i q)))

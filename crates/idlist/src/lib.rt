@@ -1,7 +1,9 @@
 // Ids in byte strings, 32 bytes each. For our own crates.
 use table::compare::word;
-ghost use Prim.Native.Nat.{_+_, _*_, _≤_};
+ghost use Prim.Native.Nat.{ℕ, _+_, _*_, _≤_, _<_};
 ghost use mathlib.Core.Path.{_≡_};
+ghost use mathlib.Core.Bool.{true, false};
+ghost use lib.Dec.{ltb};
 ghost use lib.ListN.{length, take, drop};
 ghost use Rattle.message.specs.Bound.{bigEndian};
 ghost use Rattle.message.specs.Code.{idsIn};
@@ -36,19 +38,37 @@ fn stands_at(list: &[u8], at: usize, id: &[u8], first: u64) -> bool
     same_bytes(&id[..32], &list[at..end])
 }
 
-// Whether the id that begins a slice is one of the `count` ids that begin another.
-pub fn contains(list: &[u8], count: usize, id: &[u8]) -> bool
-    requires { ⌜ (count * 32 ≤ length (now list)) × (32 ≤ length (now id)) ⌝ }
-    ensures { λ r. ⌜ r ≡ some (same (take 32 (now (id .entry)))) (idsIn count (now (list .entry))) ⌝ }
+// The first of the ids from number `from` up to number `to` of a list that is the id that begins a slice, or `to` where none is. The id's first eight bytes
+// are `first`.
+fn find_between(list: &[u8], from: usize, to: usize, id: &[u8], first: u64) -> usize
+    requires { ⌜ (from ≤ to) × (to * 32 ≤ length (now list)) × (32 ≤ length (now id)) × (first ≡ bigEndian 8 (now id)) ⌝ }
+    ensures { λ r. ⌜ (r ≤ to) × (r < to → same (take 32 (now (id .entry))) (take 32 (drop (r * 32) (now (list .entry)))) ≡ true) × ((i : ℕ) → from ≤ i → i < r → same (take 32 (now (id .entry))) (take 32 (drop (i * 32) (now (list .entry)))) ≡ false) ⌝ }
 {
-    let first = word(id, 0);
-    let mut i = 0;
-    while i < count {
+    let mut i = from;
+    while i < to {
         let at = i * 32;
         if stands_at(list, at, id, first) {
-            return true;
+            return i;
         }
         i += 1;
     }
-    false
+    i
+}
+
+// Where the id that begins a slice stands among the `count` ids that begin a list: sought from number `from` on, then from the start; `count` where it does
+// not.
+pub fn find(list: &[u8], count: usize, id: &[u8], from: usize) -> usize
+    requires { ⌜ (from ≤ count) × (count * 32 ≤ length (now list)) × (32 ≤ length (now id)) ⌝ }
+    ensures { λ r. ⌜ (r ≤ count) × (ltb r count ≡ some (same (take 32 (now (id .entry)))) (idsIn count (now (list .entry)))) ⌝ }
+{
+    let first = word(id, 0);
+    let behind = find_between(list, from, count, id, first);
+    if behind < count {
+        return behind;
+    }
+    let before = find_between(list, 0, from, id, first);
+    if before < from {
+        return before;
+    }
+    count
 }

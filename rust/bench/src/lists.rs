@@ -104,14 +104,7 @@ impl List {
         if self.room != Ample {
             buffers = Buffers::with_room(&tables, self.counts.theirs);
         }
-        let mut run = Run {
-            clock,
-            effort,
-            tables: &tables,
-            cut,
-            record: &record,
-            buffers,
-        };
+        let mut run = Run::new(clock, effort, &tables, cut, &record, buffers);
         let ways = [Way::Library, Way::Reference];
         if self.room == Short {
             return refused(&mut run, &ways);

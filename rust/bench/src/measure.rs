@@ -94,14 +94,7 @@ pub fn measure(clock: &Clock, effort: &Effort, case: &Case, cut: Cut, n: usize, 
     let record = Record::made(&tables, cut, &mut buffers);
     measured.queries = record.rounds.iter().map(|round| round.query.len()).collect();
     measured.replies = record.rounds.iter().map(|round| round.reply.len()).collect();
-    let mut run = Run {
-        clock,
-        effort,
-        tables: &tables,
-        cut,
-        record: &record,
-        buffers,
-    };
+    let mut run = Run::new(clock, effort, &tables, cut, &record, buffers);
     measured.series.extend(run.opening(&ways(Call::Open)));
     for call in [Call::Answer, Call::Take] {
         measured.series.extend(run.rounds(call, &ways(call)));
@@ -116,6 +109,26 @@ pub struct Run<'a> {
     pub cut: Cut,
     pub record: &'a Record,
     pub buffers: Buffers,
+}
+
+impl<'a> Run<'a> {
+    pub fn new(
+        clock: &'a Clock,
+        effort: &'a Effort,
+        tables: &'a Tables,
+        cut: Cut,
+        record: &'a Record,
+        buffers: Buffers,
+    ) -> Self {
+        Run {
+            clock,
+            effort,
+            tables,
+            cut,
+            record,
+            buffers,
+        }
+    }
 }
 
 impl Run<'_> {

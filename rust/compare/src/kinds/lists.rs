@@ -1,6 +1,6 @@
-//! Replies with more ids than the library sorts at once (11,264): repeats in one list and across ranges, ids of own
+//! Replies with more ids than the library sorts at once (11,008): repeats in one list and across ranges, ids of own
 //! items, ids on the needed list already, rising, falling and mixed orders, own items fewer and more than are sorted at
-//! once, and ids that differ only behind their first eight bytes.
+//! once, and ids that differ only behind their first three or eight bytes.
 use super::Case;
 use crate::calls::Call;
 use crate::compare::Check;
@@ -10,7 +10,7 @@ use crate::rng::Rng;
 use recon::{Cut, Session};
 use reference::{spell, Bound, Payload, Range};
 
-const SORTED_AT_ONCE: usize = 11_264;
+const SORTED_AT_ONCE: usize = 11_008;
 const CUT: Cut = Cut { parts: 2, limit: 2 };
 
 pub fn cases(long: bool) -> u64 {
@@ -24,7 +24,7 @@ pub fn cases(long: bool) -> u64 {
 pub fn run(case: &mut Case<'_, '_>) -> Check {
     let around = case.rng.pick(&[1, 2, 3]) * SORTED_AT_ONCE;
     let count = around + case.rng.below(5) - 2;
-    let alike = case.rng.below(3) == 0;
+    let alike = case.rng.pick(&[0, 0, 3, 8]);
     let own = own_table(&mut case.rng, alike);
     let fresh: Vec<Id> = (0..count).map(|_| some_id(&mut case.rng, alike)).collect();
     let needed = some_sorted(&mut case.rng, &fresh, count / 10);
@@ -50,17 +50,15 @@ fn session(needed: usize) -> Session {
     }
 }
 
-/// A random id; those that are alike have the same first eight bytes.
-fn some_id(rng: &mut Rng, alike: bool) -> Id {
+/// A random id; the first bytes of all of them are alike.
+fn some_id(rng: &mut Rng, alike: usize) -> Id {
     let mut id = rng.id();
-    if alike {
-        id[..8].fill(7);
-    }
+    id[..alike].fill(7);
     id
 }
 
 /// Two items for each time.
-fn own_table(rng: &mut Rng, alike: bool) -> OwnedTable {
+fn own_table(rng: &mut Rng, alike: usize) -> OwnedTable {
     let count = rng.pick(&[600, 12_000]);
     let mut items: Vec<(u64, Id)> = (0..count).map(|number| (number / 2, some_id(rng, alike))).collect();
     items.sort_unstable();

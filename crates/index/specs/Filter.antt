@@ -2,6 +2,7 @@
 use Prim.Native.Nat.{ℕ, _+_, _%_, _≤_, _<_}
 use mathlib.Core.Path.{_≡_}
 use mathlib.Core.List.{List}
+use mathlib.Core.Logic.{_⊎_}
 use lib.ListN.{length, getD}
 
 -- the byte of a filter that stands for a word
@@ -16,3 +17,7 @@ pub record Filtered (words : List ℕ) (n : ℕ) (found : List ℕ) (at : ℕ) :
 -- the first n words do not fall
 abbrev pub Rises : List ℕ → ℕ → Type 0
 Rises words n = (i j : ℕ) → i ≤ j → j < n → getD words i 0 ≤ getD words j 0
+
+-- a word is below the lowest or above the highest
+abbrev pub Outside : ℕ → ℕ → ℕ → Type 0
+Outside low high w = (w < low) ⊎ (high < w)

@@ -1,10 +1,12 @@
 // A filter beside an index: a byte for each value that the lowest bits of a word can have, 1 where the index has such a word. Most ids that an index does not have
 // are told by one byte.
-ghost use Prim.Native.Nat.{ℕ, _+_, _≤_, _<_};
+use table::compare::word;
+ghost use Prim.Native.Nat.{ℕ, _+_, _*_, _≤_, _<_};
 ghost use mathlib.Core.Path.{_≡_};
-ghost use mathlib.Core.Bool.{true};
-ghost use lib.ListN.{length, getD};
-ghost use Rattle.index.specs.Filter.{slotOf, Filtered, Rises};
+ghost use mathlib.Core.Bool.{true, false};
+ghost use lib.ListN.{length, drop, getD};
+ghost use Rattle.message.specs.Bound.{bigEndian};
+ghost use Rattle.index.specs.Filter.{slotOf, Filtered, Rises, Outside};
 
 // The byte of a filter that stands for a word.
 fn slot(word: u64) -> usize
@@ -75,4 +77,30 @@ pub(crate) fn surely_lacks(
         return found[at + s] == 0;
     }
     false
+}
+
+// Whether a word lies from `low` to `high`.
+fn lies_inside(word: u64, low: u64, high: u64) -> bool
+    ensures { λ r. ⌜ (r ≡ false → Outside low high word) ⌝ }
+{
+    if word < low {
+        return false;
+    }
+    word <= high
+}
+
+// The first of the ids from number j on whose word lies from `low` to `high`, or `count` where none does.
+pub(crate) fn next_inside(list: &[u8], j: usize, count: usize, low: u64, high: u64) -> usize
+    requires { ⌜ (j ≤ count) × (count * 32 ≤ length (now list)) ⌝ }
+    ensures { λ r. ⌜ (j ≤ r) × (r ≤ count) × ((i : ℕ) → j ≤ i → i < r → Outside low high (bigEndian 8 (drop (i * 32) (now (list .entry))))) ⌝ }
+{
+    let mut i = j;
+    while i < count {
+        let at = i * 32;
+        if lies_inside(word(list, at), low, high) {
+            return i;
+        }
+        i += 1;
+    }
+    i
 }

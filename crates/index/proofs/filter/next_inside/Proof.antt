@@ -1,6 +1,5 @@
 -- `index::filter::next_inside` meets its contract. The invariant: the words up to number i lie outside.
 use Prim.Native.Nat.{ℕ, _-_, _*_, _≤_, _<_}
-use mathlib.Core.Path.{_≡_}
 use native.Mathlib.Omega.{arith}
 use lib.ListN.{drop}
 use borrow.Author.Needs.{needs}

@@ -1,6 +1,5 @@
 -- `index::lookup::bucket_of` meets its contract.
 use native.Mathlib.Omega.{arith}
-use mathlib.Core.Path.{_≡_}
 use borrow.Author.Needs.{needs}
 use Rattle.index.proofs.Directory.{around}
 use Rattle.index.proofs.lookup.bucket_of.Statement.{statement}

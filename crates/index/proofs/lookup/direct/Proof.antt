@@ -4,7 +4,6 @@ use mathlib.Core.Path.{_≡_, refl, _∙_}
 use native.Mathlib.Omega.{arith}
 use lib.ListN.{length, getD, length-set}
 use lib.Seq.{getD-set-same, getD-set-other}
-use borrow.Author.Needs.{needs}
 use Rattle.message.proofs.Order.{Small}
 use Rattle.index.specs.Sorting.{bucketOf}
 use Rattle.index.specs.Lookup.{Head}

@@ -1,10 +1,7 @@
 -- `index::lookup::head` meets its contract. The invariant: the words from `k` up to the place lie in buckets below b.
 use Prim.Native.Nat.{ℕ, _-_, _≤_, _<_}
-use mathlib.Core.Path.{_≡_}
 use native.Mathlib.Omega.{arith}
 use lib.ListN.{getD}
-use borrow.Author.Needs.{needs}
-use borrow.Author.Tests.{leb-true, leb-false}
 use Rattle.index.specs.Sorting.{bucketOf}
 use Rattle.index.proofs.Heaps.{by-same}
 use Rattle.index.proofs.lookup.head.Statement.{statement}

@@ -1,7 +1,7 @@
 -- The smallest ids so far, by their places: one more is offered, and the ids still to come become fewer.
 use Prim.Native.Nat.{ℕ, zero, suc, _+_, _-_, _*_, _≤_, _<_}
 use mathlib.Core.Path.{_≡_, refl, sym, ap, subst, _∙_}
-use mathlib.Core.Bool.{Bool, true, false, cond, not, _||_, or-assoc, or-comm}
+use mathlib.Core.Bool.{Bool, true, false, cond, _||_, or-assoc, or-comm}
 use mathlib.Core.List.{List, [], _∷_, _++_, map}
 use mathlib.Core.Logic.{_⊎_, inl, inr, ⊎-elim}
 use native.Mathlib.Nat.{le-refl}
@@ -11,7 +11,7 @@ use lib.Dec.{leb, ltb, eqb}
 use lib.ListN.{length, take, drop, getD, set, length-drop, length-set, take-append-drop}
 use lib.Seq.{getD-set-same, getD-set-other, length-take-le, take-append-le, drop-append-le, take-at, drop-at}
 use borrow.Author.Tests.{ltb-true, ltb-false, leb-true, leb-false, le-leb, eqb-true, eqb-false, eq-eqb}
-use Rattle.message.specs.Bound.{Bound, bigEndian}
+use Rattle.message.specs.Bound.{bigEndian}
 use Rattle.message.specs.Message.{ids}
 use Rattle.message.specs.Code.{idsIn}
 use Rattle.message.specs.declared.Payload.{Payload}
@@ -21,23 +21,20 @@ use Rattle.theory.proofs.Tables.{has-cases, has-here, has-there}
 use Rattle.reader.specs.Private.{lowerAt}
 use Rattle.reader.proofs.Listing.{part-from}
 use Rattle.table.specs.Lists.{keep}
-use Rattle.table.specs.Table.{Table, items, within}
+use Rattle.table.specs.Table.{Table, items}
 use Rattle.table.proofs.Words.{bigEndian-take}
-use Rattle.table.proofs.Items.{ids-run}
-use Rattle.cutting.specs.Private.{ownIn, upperOf}
-use Rattle.cutting.specs.declared.Span.{Span}
+use Rattle.cutting.specs.Private.{upperOf}
 use Rattle.ends.specs.Lists.{some, same}
-use Rattle.ends.specs.Opener.{unowned}
 use Rattle.walk.specs.Walking.{Stepped}
 use Rattle.walk.specs.declared.Walk.{Walk}
 use Rattle.walk.specs.declared.Step.{Step}
 use Rattle.idlist.specs.Positions.{keyAt, Pointing}
-use Rattle.window.specs.Adding.{addedFrom}
+use Rattle.walk.specs.Adding.{addedFrom, others}
 use Rattle.index.specs.Lookup.{listed}
 use Rattle.index.specs.Sorting.{Worded, Heap, Rearranged, Distinct}
 use Rattle.index.proofs.Heaps.{by-same, same-key, pointing-kept, keys-kept, keys-from, heap-top}
-use Rattle.window.specs.Windows.{fromBy, wants, Held, among, beyond, Placed, Offered, others, pickedAt, Picked, Picking, FoundAt, Gathering, Gathered, Windowed}
-use Rattle.window.proofs.Adding.{lacks, list-adds, unowned-is, rangeAdds, added-next, added-ends, listFrom, list-whole, list-none, list-next}
+use Rattle.window.specs.Windows.{fromBy, wants, Held, among, beyond, Placed, Offered, pickedAt, Picked, Picking, FoundAt, Gathering, Gathered, Windowed}
+use Rattle.walk.proofs.Adding.{lacks, list-adds, unowned-span, rangeAdds, added-next, added-ends, listFrom, list-whole, list-none, list-next}
 
 -- the ids as numbers
 abbrev numbers : List (List ℕ) → List ℕ
@@ -362,11 +359,6 @@ pub found-told : (own m bytes picks : List ℕ) (start owned count : ℕ) (found
 found-told own m bytes picks start owned count found k h i l = rw (part-from own start, k .copied i l) at (h i l)
 
 -- ---- the ranges of a message
-
--- the own ids of a span are the bytes of the table there
-unowned-span : (T : Table) (s : Span) → s .hi ≤ length (T .times) → (x : Bound) → within x (upperOf s) (items T) ≡ ownIn T s → (l : List (List ℕ))
-    → unowned (items T) x (upperOf s) (ids l) ≡ others (T .ids) s l
-unowned-span T s h x e l = unowned-is T s x e l ∙ ap (λ (o : List (List ℕ)). keep (lacks o) l) (ids-run T (s .lo) (s .hi) h)
 
 pub none-placed : (m words pos : List ℕ) → Placed m words pos 0
 none-placed m words pos = record { few = omega arith; points = λ k l. absurd (omega arith); worded = λ k l. absurd (omega arith); heap = λ e. absurd (omega arith) }

@@ -1,16 +1,13 @@
 -- For contracts of functions that only our own crates call: the smallest of the ids `all` that a reply adds, from the number f on.
 use Prim.Native.Nat.{ℕ, zero, suc, _+_, _-_, _*_, _≤_, _<_}
 use mathlib.Core.Path.{_≡_}
-use mathlib.Core.Bool.{Bool, true, cond, not, _&&_, _||_}
+use mathlib.Core.Bool.{Bool, true, cond, _&&_, _||_}
 use mathlib.Core.List.{List, [], _∷_, map}
 use mathlib.Core.Logic.{_⊎_}
 use lib.Dec.{leb, ltb}
 use lib.ListN.{length, take, drop, getD}
 use Rattle.message.specs.Bound.{bigEndian}
-use Rattle.message.specs.Code.{idsIn}
 use Rattle.theory.specs.Table.{has}
-use Rattle.table.specs.Lists.{keep}
-use Rattle.cutting.specs.declared.Span.{Span}
 use Rattle.ends.specs.Lists.{some, same}
 use Rattle.idlist.specs.Positions.{keyAt, Pointing, KeysRise}
 use Rattle.index.specs.Sorting.{Heap, Worded}
@@ -62,14 +59,6 @@ pub record Offered (m before : List ℕ) (n p : ℕ) (words after : List ℕ) (r
   pub joined : (j : ℕ) × (j < r) × (getD after j 0 ≡ p)
   pub from : (k : ℕ) → k < r → (getD after k 0 ≡ p) ⊎ ((j : ℕ) × (j < n) × (getD before j 0 ≡ getD after k 0))
   pub kept : (k : ℕ) → k < n → ((j : ℕ) × (j < r) × (getD after j 0 ≡ getD before k 0)) ⊎ ((n ≡ 11008) × (k ≡ 0))
-
--- the ids of a list that are none of the ids o
-abbrev pub without : List (List ℕ) → List (List ℕ) → List (List ℕ)
-without o l = keep (λ d. not (some (same d) o)) l
-
--- the ids of a list that no own item of the span has; `own` is the bytes of all own ids
-abbrev pub others : List ℕ → Span → List (List ℕ) → List (List ℕ)
-others own span l = without (idsIn (span .hi - span .lo) (drop (span .lo * 32) own)) l
 
 -- the ids at the first n of some places, the last of them first
 unfoldable pub pickedAt : List ℕ → List ℕ → ℕ → List (List ℕ)

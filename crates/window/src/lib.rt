@@ -12,7 +12,7 @@ ghost use Rattle.table.specs.Private.{Passed};
 ghost use Rattle.index.specs.Lookup.{Room};
 ghost use Rattle.index.specs.Sorting.{Worded};
 ghost use Rattle.walk.specs.Walking.{starts, Walking};
-ghost use Rattle.window.specs.Adding.{addedFrom};
+ghost use Rattle.walk.specs.Adding.{addedFrom};
 ghost use Rattle.window.specs.Windows.{fromBy, Picking, Windowed};
 
 mod select;

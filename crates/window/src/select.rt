@@ -20,8 +20,8 @@ ghost use Rattle.table.specs.Private.{Passed};
 ghost use Rattle.walk.specs.Walking.{starts, Walking};
 ghost use Rattle.idlist.specs.Positions.{keyAt, Pointing};
 ghost use Rattle.index.specs.Lookup.{Room};
-ghost use Rattle.window.specs.Adding.{addedFrom};
-ghost use Rattle.window.specs.Windows.{fromBy, wants, Placed, Offered, without, others, pickedAt, Picked, Picking, FoundAt, Gathering, Gathered};
+ghost use Rattle.walk.specs.Adding.{addedFrom, without, others};
+ghost use Rattle.window.specs.Windows.{fromBy, wants, Placed, Offered, pickedAt, Picked, Picking, FoundAt, Gathering, Gathered};
 
 // A list is gone through up to id number `next`, and `count` of its ids are picked.
 struct Picks {

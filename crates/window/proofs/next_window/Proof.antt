@@ -8,7 +8,7 @@ use borrow.Author.Needs.{needs}
 use Rattle.table.specs.Code.{lent}
 use Rattle.walk.specs.Walking.{starts}
 use Rattle.index.proofs.Heaps.{pointing-kept}
-use Rattle.window.specs.Adding.{addedFrom}
+use Rattle.walk.specs.Adding.{addedFrom}
 use Rattle.window.specs.Windows.{fromBy}
 use Rattle.window.proofs.Selecting.{window-made}
 use Rattle.window.proofs.next_window.Statement.{statement}

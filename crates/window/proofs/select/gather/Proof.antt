@@ -9,9 +9,9 @@ use Rattle.table.specs.Code.{lent}
 use Rattle.table.specs.Table.{Table, items}
 use Rattle.walk.specs.Walking.{starts, Walking}
 use Rattle.index.specs.Lookup.{Room}
-use Rattle.window.specs.Adding.{addedFrom}
+use Rattle.walk.specs.Adding.{addedFrom}
 use Rattle.window.specs.Windows.{fromBy, Placed, Picking, Gathering}
-use Rattle.window.proofs.Adding.{own-room, ids-inside, skip-adds, fingerprint-adds}
+use Rattle.walk.proofs.Adding.{own-room, ids-inside, skip-adds, fingerprint-adds}
 use Rattle.window.proofs.Selecting.{none-placed, none-gathered, none-left, ids-left, ranges-end, picking-kept}
 use Rattle.index.proofs.Rooms.{room-kept}
 use Rattle.window.proofs.select.gather.Statement.{statement}

@@ -8,7 +8,8 @@ use Rattle.message.specs.Code.{idsIn}
 use Rattle.cutting.specs.declared.Span.{Span}
 use Rattle.index.specs.Lookup.{Room}
 use Rattle.index.proofs.Rooms.{room-kept}
-use Rattle.window.specs.Windows.{fromBy, Placed, others, Picking, Gathering}
+use Rattle.walk.specs.Adding.{others}
+use Rattle.window.specs.Windows.{fromBy, Placed, Picking, Gathering}
 use Rattle.window.proofs.Selecting.{othersFrom, list-starts, list-ends, picking-kept}
 use Rattle.window.proofs.select.gather_list.Statement.{statement}
 use Rattle.window.proofs.select.gather_list.Tie as tie

@@ -5,7 +5,8 @@ use mathlib.Core.List.{List, _++_}
 use native.Mathlib.Omega.{arith}
 use lib.ListN.{length, getD}
 use native.Mathlib.Nat.{le-refl}
-use Rattle.window.specs.Windows.{fromBy, Placed, without, pickedAt, FoundAt, Gathering}
+use Rattle.walk.specs.Adding.{without}
+use Rattle.window.specs.Windows.{fromBy, Placed, pickedAt, FoundAt, Gathering}
 use Rattle.window.proofs.Selecting.{picked-step, picked-none}
 use Rattle.window.proofs.select.offer_picked.Statement.{statement}
 use Rattle.window.proofs.select.offer_picked.Tie as tie

@@ -5,7 +5,8 @@ use mathlib.Core.List.{List, _++_}
 use native.Mathlib.Nat.{le-refl}
 use native.Mathlib.Omega.{arith}
 use lib.ListN.{length}
-use Rattle.window.specs.Windows.{fromBy, without, pickedAt, Picked, Gathering}
+use Rattle.walk.specs.Adding.{without}
+use Rattle.window.specs.Windows.{fromBy, pickedAt, Picked, Gathering}
 use Rattle.window.proofs.Selecting.{othersFrom, none-picked, picked-none, pick-next}
 use Rattle.window.proofs.select.pick.Statement.{statement}
 use Rattle.window.proofs.select.pick.Tie as tie

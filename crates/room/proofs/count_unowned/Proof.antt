@@ -1,4 +1,4 @@
--- `needed::room::count_unowned` meets its contract. The invariant: `Summing`.
+-- `room::count_unowned` meets its contract. The invariant: `Summing`.
 use Prim.Native.Nat.{_+_, _-_, _*_, _≤_, _<_}
 use mathlib.Core.Path.{_≡_, refl, _∙_}
 use native.Mathlib.Omega.{arith}
@@ -7,9 +7,9 @@ use borrow.Author.Needs.{needs}
 use Rattle.index.specs.Lookup.{Room}
 use Rattle.reader.proofs.Listing.{part-from}
 use Rattle.index.proofs.Rooms.{room-kept}
-use Rattle.needed.proofs.Unowned.{Summing, summing-starts, summing-block, summing-ends}
-use Rattle.needed.proofs.room.count_unowned.Statement.{statement}
-use Rattle.needed.proofs.room.count_unowned.Tie as tie
+use Rattle.room.proofs.Unowned.{Summing, summing-starts, summing-block, summing-ends}
+use Rattle.room.proofs.count_unowned.Statement.{statement}
+use Rattle.room.proofs.count_unowned.Tie as tie
 
 abbrev Inv-loop : tie.InvT-loop
 Inv-loop own m count at room keys₀ places₀ found₀ start owned sum₀ i₀ keys places found sum i =

@@ -1,10 +1,10 @@
--- `needed::room::count_not_found` meets its contract. The invariant: `Counting`.
+-- `room::count_not_found` meets its contract. The invariant: `Counting`.
 use Prim.Native.Nat.{_-_, _≤_}
 use mathlib.Core.Logic.{⊎-elim}
 use native.Mathlib.Omega.{arith}
-use Rattle.needed.proofs.Unowned.{Counting, counting-starts, counting-one, counting-none, counting-ends}
-use Rattle.needed.proofs.room.count_not_found.Statement.{statement}
-use Rattle.needed.proofs.room.count_not_found.Tie as tie
+use Rattle.room.proofs.Unowned.{Counting, counting-starts, counting-one, counting-none, counting-ends}
+use Rattle.room.proofs.count_not_found.Statement.{statement}
+use Rattle.room.proofs.count_not_found.Tie as tie
 
 abbrev Inv-loop : tie.InvT-loop
 Inv-loop found n count₀ i₀ count i = (i ≤ n) × (count ≤ i) × Counting found n count i

@@ -1,22 +1,28 @@
--- The listed ids that no own item has, counted.
+-- The listed ids that no own item has, counted, and whether there is room for what a reply adds.
 use Prim.Native.Nat.{ℕ, suc, _+_, _-_, _*_, _≤_, _<_}
 use mathlib.Core.Path.{_≡_, refl, ap, _∙_}
-use mathlib.Core.List.{List, [], _∷_, _++_}
+use mathlib.Core.Bool.{false}
+use mathlib.Core.List.{List, [], _∷_, _++_, foldr}
 use native.Mathlib.Omega.{arith}
-use lib.ListN.{length, take, drop, getD, length-append, replicate, length-replicate}
-use borrow.Author.Tests.{ne-eqb}
+use lib.Dec.{ltb}
+use lib.ListN.{length, take, drop, getD, length-append}
+use borrow.Author.Tests.{ne-eqb, ltb-true, ltb-false, lt-ltb, le-ltb}
 use Rattle.message.specs.Code.{idsIn}
 use Rattle.message.specs.declared.Payload.{Payload}
-use Rattle.index.specs.Lookup.{Room}
-use Rattle.table.specs.Table.{Table}
-use Rattle.walk.specs.Walking.{Stepped}
+use Rattle.message.proofs.Exact.{byTest}
+use Rattle.message.proofs.Forms.{ids-count}
+use Rattle.reader.specs.Private.{rangesAt}
+use Rattle.table.specs.Table.{Table, items}
+use Rattle.ends.specs.Opener.{insert, neededAfter}
+use Rattle.ends.proofs.Messages.{keep-length}
+use Rattle.walk.specs.Walking.{starts, Stepped}
 use Rattle.walk.specs.declared.Walk.{Walk}
 use Rattle.walk.specs.declared.Step.{Step}
-use Rattle.window.specs.Adding.{addedFrom}
-use Rattle.window.specs.Windows.{others}
-use Rattle.window.proofs.Adding.{listFrom}
+use Rattle.walk.specs.Adding.{addedFrom, others}
+use Rattle.walk.proofs.Adding.{lacks, listFrom, needed-is}
 use Rattle.needed.specs.Batches.{unless, notFound}
+use Rattle.needed.proofs.Inserting.{added-grows}
 use Rattle.needed.proofs.Batching.{notFoundFrom, not-found-all, not-found-none, not-found-next, unownedIn, LookedUp, others-next, others-all, others-none, ids-add-next}
 
 -- ---- the ids of a block
 
@@ -79,3 +85,29 @@ pub list-adds-unowned : (T : Table) (m : List ℕ) (w : Walk) (s : Step) → Ste
     → length (addedFrom T m w) ≡ length (others (T .ids) (s .span) (idsIn count (drop at m))) + length (addedFrom T m (s .next))
 list-adds-unowned T m w s k count at e =
     ap length (ids-add-next T m w s k count at e) ∙ length-append (others (T .ids) (s .span) (idsIn count (drop at m))) (addedFrom T m (s .next))
+
+-- a list adds no more ids than it has
+pub list-adds-few : (T : Table) (m : List ℕ) (w : Walk) (s : Step) → Stepped T m w s → (count at : ℕ) → s .payload ≡ Payload.Ids count at
+    → length (addedFrom T m w) ≤ count + length (addedFrom T m (s .next))
+list-adds-few T m w s k count at e =
+    let o = others (T .ids) (s .span) (idsIn count (drop at m)) in
+    omega (
+      arith,
+      ap length (ids-add-next T m w s k count at e),
+      length-append o (addedFrom T m (s .next)),
+      keep-length (lacks (idsIn (s .span .hi - s .span .lo) (drop (s .span .lo * 32) (T .ids)))) (idsIn count (drop at m)),
+      ids-count count (drop at m),
+    )
+
+-- 11 cannot be met where there is room for all that is added
+pub room-enough : (T : Table) (m : List ℕ) (ds : List (List ℕ)) (size have : ℕ) → length ds ≡ size → size ≤ have → length (addedFrom T m starts) ≤ have - size
+    → ltb have (length (neededAfter (items T) (rangesAt m (starts .cursor)) ds)) ≡ false
+room-enough T m ds size have e h f =
+    rw (needed-is T m ds) (le-ltb have (length (foldr insert ds (addedFrom T m starts))) (omega (arith, e, h, f, added-grows ds (addedFrom T m starts) .1)))
+
+-- the ids that are new, counted
+pub room-counted : (have size more n : ℕ) → size ≤ have → n ≡ more + size → ltb (have - size) more ≡ ltb have n
+room-counted have size more n h e =
+    byTest (ltb (have - size) more)
+    (λ t. rw (t, lt-ltb have n (let l = ltb-true (have - size) more t in omega arith)) refl)
+    (λ t. rw (t, le-ltb have n (let l = ltb-false (have - size) more t in omega arith)) refl)

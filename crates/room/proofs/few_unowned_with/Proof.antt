@@ -1,4 +1,4 @@
--- `needed::room::few_unowned_with` meets its contract. The invariant: what is left of the room, and what the ranges from the walk on add.
+-- `room::few_unowned_with` meets its contract. The invariant: what is left of the room, and what the ranges from the walk on add.
 use Prim.Native.Nat.{ℕ, _+_, _-_, _*_, _≤_, _<_}
 use mathlib.Core.Path.{_≡_, refl, ap, _∙_}
 use mathlib.Core.List.{List}
@@ -10,13 +10,13 @@ use Rattle.table.specs.Code.{lent}
 use Rattle.table.specs.Table.{Table, items}
 use Rattle.reader.specs.Private.{lowerAt}
 use Rattle.walk.specs.Walking.{starts, Walking}
-use Rattle.window.specs.Adding.{addedFrom}
-use Rattle.window.proofs.Adding.{own-room, ids-inside, skip-adds, fingerprint-adds, added-ends}
+use Rattle.walk.specs.Adding.{addedFrom}
+use Rattle.walk.proofs.Adding.{own-room, ids-inside, skip-adds, fingerprint-adds, added-ends}
 use Rattle.needed.proofs.Batching.{none-adds}
 use Rattle.index.proofs.Rooms.{room-kept}
-use Rattle.needed.proofs.Unowned.{list-adds-unowned}
-use Rattle.needed.proofs.room.few_unowned_with.Statement.{statement}
-use Rattle.needed.proofs.room.few_unowned_with.Tie as tie
+use Rattle.room.proofs.Unowned.{list-adds-unowned}
+use Rattle.room.proofs.few_unowned_with.Statement.{statement}
+use Rattle.room.proofs.few_unowned_with.Tie as tie
 
 abbrev Inv-loop : tie.InvT-loop
 Inv-loop times own m room keys₀ places₀ found₀ left₀ walk₀ keys places found left walk =

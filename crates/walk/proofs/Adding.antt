@@ -1,8 +1,8 @@
 -- What the ranges of a reply add to the needed list.
 use Prim.Native.Nat.{ℕ, zero, suc, _+_, _-_, _*_, _≤_, _<_}
-use mathlib.Core.Path.{_≡_, refl, sym, ap, subst, _∙_}
-use mathlib.Core.Bool.{Bool, true, false, cond, not, _&&_, _||_, and-true, and-false, or-assoc}
-use mathlib.Core.List.{List, [], _∷_, _++_, foldr, flatten, foldr-append}
+use mathlib.Core.Path.{_≡_, refl, sym, ap, _∙_}
+use mathlib.Core.Bool.{Bool, true, false, not, _&&_, _||_, and-false, or-assoc}
+use mathlib.Core.List.{List, [], _∷_, _++_, foldr, flatten}
 use native.Mathlib.Omega.{arith}
 use lib.ListN.{length, take, drop, length-append, length-drop}
 use lib.Seq.{drop-drop}
@@ -22,22 +22,21 @@ use Rattle.reader.proofs.Stepping.{ranges-rise, reading-ends}
 use Rattle.table.specs.Lists.{keep}
 use Rattle.table.specs.Table.{Item, Table, items, within, idsOf}
 use Rattle.table.specs.Private.{Passed}
-use Rattle.table.proofs.Ids.{ids-sized}
 use Rattle.table.proofs.Items.{right-size, ids-run}
 use Rattle.cutting.specs.Private.{ownIn, upperOf, Inside}
 use Rattle.cutting.specs.declared.Span.{Span}
-use Rattle.cutting.proofs.Projection.{all-keep}
 use Rattle.ends.specs.Lists.{some, same}
 use Rattle.ends.specs.Calls.{eachRange}
 use Rattle.ends.specs.Opener.{unowned, insert, neededAfter}
 use Rattle.ends.proofs.Lists.{flatten-length}
 use Rattle.ends.proofs.Tables.{same-true}
-use Rattle.ends.proofs.Messages.{all-append, keep-length}
+use Rattle.ends.proofs.Messages.{keep-length}
 use Rattle.ends.proofs.Reports.{unowned-sized}
 use Rattle.walk.specs.Walking.{starts, Walking, Stepped}
 use Rattle.walk.specs.declared.Walk.{Walk}
 use Rattle.walk.specs.declared.Step.{Step}
-use Rattle.window.specs.Adding.{addedFrom}
+use Rattle.walk.specs.Adding.{addedFrom, others}
+use Rattle.walk.proofs.Steps.{lower-starts}
 
 -- ---- lists
 
@@ -105,6 +104,11 @@ module _ (T : Table) (s : Span) (x : B.Bound) (own : within x (upperOf s) (items
       let o = idsOf (ownIn T s) in
       rw (e, unowned-is l, some-keep d (lacks o) l, listed, owned, ids-run T (s .lo) (s .hi) (inside .1), rest-is (s .lo * 32) (T .ids), rest-is at m) refl
 
+-- the own ids of a span are the bytes of the table there
+pub unowned-span : (T : Table) (s : Span) → s .hi ≤ length (T .times) → (x : B.Bound) → within x (upperOf s) (items T) ≡ ownIn T s → (l : List (List ℕ))
+    → unowned (items T) x (upperOf s) (ids l) ≡ others (T .ids) s l
+unowned-span T s h x e l = unowned-is T s x e l ∙ ap (λ (o : List (List ℕ)). keep (lacks o) l) (ids-run T (s .lo) (s .hi) h)
+
 -- ---- the ranges from a walk on
 
 -- the ids that the range of a step adds
@@ -161,6 +165,11 @@ module _ (T : Table) (m : List ℕ) (w : Walk) (bytes : Bytes m) (walking : Walk
   added-few =
       let r = ranges-back (length m) (lowerAt (w .cursor)) (drop (w .cursor .at) m) (rangesAt m (w .cursor)) [] (bytes-take (w .cursor .at) m bytes .1) (walking .reads) in
       omega (arith, few (items T) (lowerAt (w .cursor)) (rangesAt m (w .cursor)) (r .0), ap length (r .1), length-drop (w .cursor .at) m)
+
+-- the needed list with all that a reply adds
+pub needed-is : (T : Table) (m : List ℕ) (ds : List (List ℕ)) → neededAfter (items T) (rangesAt m (starts .cursor)) ds ≡ foldr insert ds (addedFrom T m starts)
+unfolding neededAfter addedFrom
+needed-is T m ds = rw lower-starts refl
 
 -- ---- a list of ids
 

@@ -57,14 +57,7 @@ fn reaches(m: &[u8], interval: Interval, p: usize, v: u64) -> bool
 }
 
 // Whether the id at place p belongs to the n smallest so far: it is one of the interval, and there is room or it is below the largest.
-fn wanted(
-    m: &[u8],
-    interval: Interval,
-    words: &[u64],
-    pos: &[usize],
-    n: usize,
-    p: usize,
-) -> bool
+fn wanted(m: &[u8], interval: Interval, words: &[u64], pos: &[usize], n: usize, p: usize) -> bool
     requires { ⌜ (p + 32 ≤ length (now m)) × Floored interval (now m) × (length (now words) ≡ 11008) × (length (now pos) ≡ 11008) × Placed (now m) (now words) (now pos) n ⌝ }
     ensures { λ r. ⌜ r ≡ wants (limits interval (now (m .entry))) (bigEndian 32 (drop p (now (m .entry)))) n (keyAt (now (m .entry)) (now (pos .entry)) 0) ⌝ }
 {
@@ -205,17 +198,7 @@ fn pick(
         if picks.len() <= k {
             return Picks { next, count: k };
         }
-        k = pick_id(
-            m,
-            interval,
-            words,
-            pos,
-            n,
-            at + next * 32,
-            ids,
-            picks,
-            k,
-        );
+        k = pick_id(m, interval, words, pos, n, at + next * 32, ids, picks, k);
         next += 1;
     }
     Picks { next, count: k }

@@ -1,74 +1,31 @@
+-- `window::spread::count_listed` meets its contract. The invariant: the slice keeps its length.
+use Prim.Native.Nat.{_-_, _<_}
+use mathlib.Core.Path.{_≡_, refl, _∙_}
+use native.Mathlib.Omega.{arith}
+use lib.ListN.{length}
+use borrow.Author.Needs.{needs}
+use Rattle.table.specs.Code.{lent}
+use Rattle.walk.specs.Walking.{Walking}
+use Rattle.walk.proofs.Adding.{ids-inside}
 use Rattle.window.proofs.spread.count_listed.Statement.{statement}
 use Rattle.window.proofs.spread.count_listed.Tie as tie
-use Rattle.window.proofs.spread.count_listed.Reads as reads
-use Rattle.window.proofs.spread.count_listed.Lts as lts
-use Rattle.walk.proofs.Walk.start.Reads as start-reads
-use Rattle.walk.proofs.Walk.step.Reads as step-reads
-use Rattle.window.proofs.spread.count_list.Reads as count-list-reads
 
 abbrev Inv-loop : tie.InvT-loop
-Inv-loop times own m low shift counts₀ walk₀ counts walk = ?
+Inv-loop times own m low shift counts₀ walk₀ counts walk = Walking (lent times own) m walk × (length counts ≡ length counts₀)
 
 abbrev μ-loop : tie.MeasureT-loop
-μ-loop times own m low shift counts₀ walk₀ counts walk = ?
+μ-loop times own m low shift counts₀ walk₀ counts walk = length m - walk .cursor .at
 
--- src/spread.rt:51:9
-start-requires : tie.Need-start-requires Inv-loop μ-loop
-start-requires c κs = ?
+-- the walk moves on
+moves : (c : tie.After-step Inv-loop μ-loop) → let m = c .before .before .before .before .before .before .before .before .before .args .m .now in length m - c .step .result .next .cursor .at < length m - c .before .before .before .loop .walk .cursor .at
+moves c = let t = c .step .ensures in let h = t .moved in let i = t .inside in omega arith
 
--- src/spread.rt:52:5
-loop-holds : tie.Need-loop-holds Inv-loop μ-loop
-loop-holds c = ?
-
--- src/spread.rt:53:13
-step-requires : tie.Need-step-requires Inv-loop μ-loop
-step-requires c κs = ?
-
-enum-told : tie.Need-enum-told Inv-loop μ-loop
-enum-told c = ?
-
--- src/spread.rt:52:5
-loop-less : tie.Need-loop-less Inv-loop μ-loop
-loop-less c = ?
-
--- src/spread.rt:52:5
-loop-again : tie.Need-loop-again Inv-loop μ-loop
-loop-again c = ?
-
-enum-told-2 : tie.Need-enum-told-2 Inv-loop μ-loop
-enum-told-2 c = ?
-
--- src/spread.rt:52:5
-loop-less-2 : tie.Need-loop-less-2 Inv-loop μ-loop
-loop-less-2 c = ?
-
--- src/spread.rt:52:5
-loop-again-2 : tie.Need-loop-again-2 Inv-loop μ-loop
-loop-again-2 c = ?
-
--- src/spread.rt:59:28
-enum-known-payload : tie.Need-enum-known-payload Inv-loop μ-loop
-enum-known-payload c = ?
-
--- src/spread.rt:60:17
 count-list-requires : tie.Need-count-list-requires Inv-loop μ-loop
-count-list-requires c κs = ?
-
--- src/spread.rt:52:5
-loop-less-3 : tie.Need-loop-less-3 Inv-loop μ-loop
-loop-less-3 c = ?
-
--- src/spread.rt:52:5
-loop-again-3 : tie.Need-loop-again-3 Inv-loop μ-loop
-loop-again-3 c = ?
-
--- src/spread.rt:48:1
-same-length : tie.Need-same-length Inv-loop μ-loop
-same-length c = ?
-
--- src/spread.rt:48:1
-returns : tie.Need-returns Inv-loop μ-loop
-returns c = ?
+count-list-requires c κs =
+    let s = c .before .before .before .before .before .before .before .before .before .before .before .before .before .before in
+    let t = c .before .before .before .before .before .step in
+    let p = c .before .before .payload .given in
+    (ids-inside (t .result .payload) (length (s .args .m .now)) (p .0 .0) (p .0 .1 .0) (p .1) (t .ensures .payload), s .pre .2)
 
 pub count-listed-spec : {M : Type 1} → statement M
 count-listed-spec =
@@ -76,18 +33,18 @@ count-listed-spec =
     (tie.spec
     Inv-loop
     μ-loop
-    start-requires
-    loop-holds
-    step-requires
-    enum-told
-    loop-less
-    loop-again
-    enum-told-2
-    loop-less-2
-    loop-again-2
-    enum-known-payload
+    (λ c κs. tt)
+    (λ c. rw (c .start .ensures) (c .before .before .before .before .before .pre .1, refl))
+    (λ c κs. (c .before .before .before .before .before .before .before .before .pre .0, c .before .before .loop .inv .0, c .if1 .taken))
+    (λ c. search needs)
+    (λ c. moves (c .before .before .before))
+    (λ c. (c .before .before .before .step .ensures .next, c .before .before .before .before .before .before .loop .inv .1))
+    (λ c. search needs)
+    (λ c. moves (c .before .before .before))
+    (λ c. (c .before .before .before .step .ensures .next, c .before .before .before .before .before .before .loop .inv .1))
+    (λ c. search needs)
     count-list-requires
-    loop-less-3
-    loop-again-3
-    same-length
-    returns)
+    (λ c. moves (c .before .before .before .before .before .before .before .before))
+    (λ c. (c .before .before .before .before .before .before .before .before .step .ensures .next, c .before .before .count-list .kept .1 .1 .1 .1 .1 .0 ∙ c .before .before .before .before .before .before .before .before .before .before .before .loop .inv .1))
+    (λ c. c .before .before .loop .inv .1)
+    (λ c. tt))

@@ -3,9 +3,7 @@
 use crate::select::gather;
 use index::sorting::distinct;
 use index::sorting::sort;
-ghost use Prim.Native.Nat.{_+_, _≤_};
 ghost use mathlib.Core.Path.{_≡_};
-ghost use mathlib.Core.Bool.{false};
 ghost use lib.ListN.{length};
 ghost use Rattle.table.specs.Code.{lent};
 ghost use Rattle.table.specs.Private.{Passed};

@@ -1,7 +1,5 @@
 -- `window::select::reaches` meets its contract.
-use mathlib.Core.Path.{_∙_}
 use native.Mathlib.Omega.{arith}
-use borrow.Author.Tests.{not-true}
 use Rattle.message.proofs.Order.{Small}
 use Rattle.window.proofs.Selecting.{word-from}
 use Rattle.window.proofs.select.reaches.Statement.{statement}

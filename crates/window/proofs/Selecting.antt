@@ -1,43 +1,41 @@
 -- The smallest ids so far, by their places: one more is offered, and the ids still to come become fewer.
 use Prim.Native.Nat.{ℕ, zero, suc, _+_, _-_, _*_, _≤_, _<_}
 use mathlib.Core.Path.{_≡_, refl, sym, ap, subst, _∙_}
-use mathlib.Core.Bool.{Bool, true, false, cond, not, _||_, or-assoc, or-comm}
+use mathlib.Core.Bool.{Bool, true, false, cond, _||_, or-assoc, or-comm}
 use mathlib.Core.List.{List, [], _∷_, _++_, map}
 use mathlib.Core.Logic.{_⊎_, inl, inr, ⊎-elim}
-use native.Mathlib.Nat.{le-refl}
+use native.Mathlib.Nat.{le-refl, mul-le-mul-right}
 use native.Mathlib.Omega.{arith}
 use native.Mathlib.Numerals.{add-one}
 use lib.Dec.{leb, ltb, eqb}
 use lib.ListN.{length, take, drop, getD, set, length-drop, length-set, take-append-drop}
 use lib.Seq.{getD-set-same, getD-set-other, length-take-le, take-append-le, drop-append-le, take-at, drop-at}
-use borrow.Author.Tests.{ltb-true, ltb-false, leb-true, leb-false, le-leb, eqb-true, eqb-false, eq-eqb}
-use Rattle.message.specs.Bound.{Bound, bigEndian}
+use borrow.Author.Tests.{lt-ltb, le-ltb, ltb-true, ltb-false, leb-true, leb-false, le-leb, lt-leb, eqb-true, eqb-false, eq-eqb}
+use Rattle.message.specs.Bound.{bigEndian}
 use Rattle.message.specs.Message.{ids}
 use Rattle.message.specs.Code.{idsIn}
 use Rattle.message.specs.declared.Payload.{Payload}
 use Rattle.message.proofs.Exact.{byTest, differ}
+use Rattle.message.proofs.Order.{Small, small-drop, bigEndian-small}
 use Rattle.theory.specs.Table.{has}
 use Rattle.theory.proofs.Tables.{has-cases, has-here, has-there}
 use Rattle.reader.specs.Private.{lowerAt}
 use Rattle.reader.proofs.Listing.{part-from}
 use Rattle.table.specs.Lists.{keep}
-use Rattle.table.specs.Table.{Table, items, within}
-use Rattle.table.proofs.Words.{bigEndian-take}
-use Rattle.table.proofs.Items.{ids-run}
-use Rattle.cutting.specs.Private.{ownIn, upperOf}
-use Rattle.cutting.specs.declared.Span.{Span}
+use Rattle.table.specs.Table.{Table, items}
+use Rattle.table.proofs.Words.{bigEndian-take, parts}
+use Rattle.cutting.specs.Private.{upperOf}
 use Rattle.ends.specs.Lists.{some, same}
-use Rattle.ends.specs.Opener.{unowned}
 use Rattle.walk.specs.Walking.{Stepped}
 use Rattle.walk.specs.declared.Walk.{Walk}
 use Rattle.walk.specs.declared.Step.{Step}
 use Rattle.idlist.specs.Positions.{keyAt, Pointing}
-use Rattle.window.specs.Adding.{addedFrom}
+use Rattle.walk.specs.Adding.{addedFrom, others}
 use Rattle.index.specs.Lookup.{listed}
 use Rattle.index.specs.Sorting.{Worded, Heap, Rearranged, Distinct}
 use Rattle.index.proofs.Heaps.{by-same, same-key, pointing-kept, keys-kept, keys-from, heap-top}
-use Rattle.window.specs.Windows.{fromBy, wants, Held, among, beyond, Placed, Offered, others, pickedAt, Picked, Picking, FoundAt, Gathering, Gathered, Windowed}
-use Rattle.window.proofs.Adding.{lacks, list-adds, unowned-is, rangeAdds, added-next, added-ends, listFrom, list-whole, list-none, list-next}
+use Rattle.window.specs.Windows.{wordSpan, Limits, Within, wants, Held, among, beyond, Placed, Offered, pickedAt, Picked, Picking, FoundAt, Gathering, Gathered, Windowed}
+use Rattle.walk.proofs.Adding.{lacks, list-adds, unowned-span, rangeAdds, added-next, added-ends, listFrom, list-whole, list-none, list-next}
 
 -- the ids as numbers
 abbrev numbers : List (List ℕ) → List ℕ
@@ -45,16 +43,42 @@ numbers l = map (bigEndian 32) l
 
 -- ---- whether an id is wanted
 
--- the id at place p is above the floor
-module _ (m : List ℕ) (first : Bool) (floor p : ℕ) where
-  abbrev pub above : Bool
-  above = leb (fromBy first floor m) (bigEndian 32 (drop p m))
+-- the numbers of the ids that begin with the eight bytes v
+module _ (m : List ℕ) (small : Small m) (p : ℕ) where
+  abbrev x : ℕ
+  x = bigEndian 32 (drop p m)
 
-  pub above-first : first ≡ true → above ≡ true
-  above-first e = rw e (le-leb 0 (bigEndian 32 (drop p m)) (omega arith))
+  abbrev v : ℕ
+  v = bigEndian 8 (drop p m)
 
-  pub above-floor : (r : Bool) → first ≡ false → r ≡ ltb (bigEndian 32 (drop floor m)) (bigEndian 32 (drop p m)) → above ≡ r
-  above-floor r e h = rw (e, h) refl
+  abbrev rest : ℕ
+  rest = bigEndian 24 (drop 8 (drop p m))
+
+  word-parts : x ≡ v * wordSpan + rest
+  unfolding wordSpan
+  word-parts = parts 8 24 (drop p m)
+
+  rest-small : rest < wordSpan
+  unfolding wordSpan
+  rest-small = bigEndian-small 24 (drop 8 (drop p m)) (small-drop 8 (drop p m) (small-drop p m small))
+
+  pub word-from : (low : ℕ) → leb low v ≡ leb (low * wordSpan) x
+  word-from low =
+      byTest (leb low v)
+      (λ e. let top : low * wordSpan ≤ v * wordSpan = mul-le-mul-right wordSpan (leb-true low v e) in rw e (sym (le-leb (low * wordSpan) x (omega (arith, word-parts)))))
+      (λ e.
+      let top : suc v * wordSpan ≤ low * wordSpan = mul-le-mul-right wordSpan (let l = leb-false low v e in omega arith) in
+      rw e (sym (lt-leb (low * wordSpan) x (omega (arith, word-parts, rest-small)))))
+
+  pub word-to : (last : ℕ) → last < v → ltb x ((last + 1) * wordSpan) ≡ false
+  word-to last h =
+      let top : (last + 1) * wordSpan ≤ v * wordSpan = mul-le-mul-right wordSpan (omega arith) in
+      le-ltb x ((last + 1) * wordSpan) (omega (arith, word-parts))
+
+  pub word-below : (last : ℕ) → v ≤ last → ltb x ((last + 1) * wordSpan) ≡ true
+  word-below last h =
+      let top : suc v * wordSpan ≤ (last + 1) * wordSpan = mul-le-mul-right wordSpan (omega arith) in
+      lt-ltb x ((last + 1) * wordSpan) (omega (arith, word-parts, rest-small))
 
 -- ---- a place joins
 
@@ -128,22 +152,22 @@ module _ (m words pos : List ℕ) (n p v : ℕ) (wide : length words ≡ 11008) 
 
 -- ---- an id that comes first of those still to come
 
-module _ (m : List ℕ) (all : List (List ℕ)) (d : List ℕ) (later : List (List ℕ)) (f : ℕ) (pos : List ℕ) (n : ℕ) (g : Gathering m all (d ∷ later) f pos n) where
+module _ (m : List ℕ) (all : List (List ℕ)) (d : List ℕ) (later : List (List ℕ)) (f : Limits) (pos : List ℕ) (n : ℕ) (g : Gathering m all (d ∷ later) f pos n) where
   left-behind : (x : ℕ) → has x (numbers later) ≡ true → has x (numbers all) ≡ true
   left-behind x e = g .left x (has-there x (bigEndian 32 d) (numbers later) e)
 
-  -- it is passed over where it is below f, or where there is no room for it
-  pub passed : (f ≤ bigEndian 32 d → Held m pos n (keyAt m pos 0) (n ≡ 11008) (bigEndian 32 d)) → Gathering m all later f pos n
+  -- it is passed over where it is not within the limits, or where there is no room for it
+  pub passed : (Within f (bigEndian 32 d) → Held m pos n (keyAt m pos 0) (n ≡ 11008) (bigEndian 32 d)) → Gathering m all later f pos n
   passed h = record {
     left = left-behind;
     from = g .from;
     holds = λ x e l. ⊎-elim
-        (λ k. ⊎-elim (λ (q : x ≡ bigEndian 32 d). inr (rw q (h (omega arith)))) (λ k. inl k) (has-cases x (bigEndian 32 d) (numbers later) k))
+        (λ k. ⊎-elim (λ (q : x ≡ bigEndian 32 d). inr (rw q (h (rw q at l)))) (λ k. inl k) (has-cases x (bigEndian 32 d) (numbers later) k))
         (λ k. inr k)
         (g .holds x e l);
   }
 
-  module _ (words : List ℕ) (p : ℕ) (words' after : List ℕ) (r : ℕ) (placed : Placed m words pos n) (here : bigEndian 32 d ≡ bigEndian 32 (drop p m)) (low : f ≤ bigEndian 32 d)
+  module _ (words : List ℕ) (p : ℕ) (words' after : List ℕ) (r : ℕ) (placed : Placed m words pos n) (here : bigEndian 32 d ≡ bigEndian 32 (drop p m)) (low : Within f (bigEndian 32 d))
       (least : n ≡ 11008 → bigEndian 32 d < keyAt m pos 0) (o : Offered m pos n p words' after r) where
     key-here : (k : ℕ) → getD after k 0 ≡ p → keyAt m after k ≡ bigEndian 32 d
     unfolding keyAt
@@ -188,25 +212,27 @@ module _ (m : List ℕ) (all : List (List ℕ)) (d : List ℕ) (later : List (Li
 -- ---- the ids of one list
 
 -- what the test of an id x tells
-module _ (f x n top : ℕ) where
-  wanted-is : true ≡ wants f x n top → (f ≤ x) × (n ≡ 11008 → x < top)
+module _ (f : Limits) (x n top : ℕ) where
+  wanted-is : true ≡ wants f x n top → Within f x × (n ≡ 11008 → x < top)
   wanted-is e =
-      byTest (leb f x)
+      byTest (ltb x (f .to))
+      (λ t. byTest (leb (f .from) x)
       (λ a. byTest (ltb n 11008)
-      (λ b. let h = ltb-true n 11008 b in (leb-true f x a, λ q. absurd (omega arith)))
-      (λ b. let h : true ≡ ltb x top = rw (a, b) at e in (leb-true f x a, λ q. ltb-true x top (sym h))))
-      (λ a. let h : true ≡ false = rw a at e in differ (cc))
+      (λ b. let h = ltb-true n 11008 b in ((leb-true (f .from) x a, ltb-true x (f .to) t), λ q. absurd (omega arith)))
+      (λ b. let h : true ≡ ltb x top = rw (t, a, b) at e in ((leb-true (f .from) x a, ltb-true x (f .to) t), λ q. ltb-true x top (sym h))))
+      (λ a. let h : true ≡ false = rw (t, a) at e in differ (cc)))
+      (λ t. let h : true ≡ false = rw t at e in differ (cc))
 
-  unwanted-is : false ≡ wants f x n top → n ≤ 11008 → f ≤ x → (n ≡ 11008) × (top ≤ x)
+  unwanted-is : false ≡ wants f x n top → n ≤ 11008 → Within f x → (n ≡ 11008) × (top ≤ x)
   unwanted-is e few l =
-      byTest (leb f x)
-      (λ a. byTest (ltb n 11008)
-      (λ b. let h : false ≡ true = rw (a, b) at e in differ (cc))
-      (λ b. let h : false ≡ ltb x top = rw (a, b) at e in let k = ltb-false n 11008 b in (omega arith, ltb-false x top (sym h))))
-      (λ a. let h = leb-false f x a in absurd (omega arith))
+      let t : ltb x (f .to) ≡ true = lt-ltb x (f .to) (l .1) in
+      let a : leb (f .from) x ≡ true = le-leb (f .from) x (l .0) in
+      byTest (ltb n 11008)
+      (λ b. let h : false ≡ true = rw (t, a, b) at e in differ (cc))
+      (λ b. let h : false ≡ ltb x top = rw (t, a, b) at e in let k = ltb-false n 11008 b in (omega arith, ltb-false x top (sym h)))
 
 -- the id at place p is passed over, or taken in
-module _ (m : List ℕ) (all : List (List ℕ)) (p : ℕ) (later : List (List ℕ)) (f : ℕ) (words pos : List ℕ) (n : ℕ) (placed : Placed m words pos n)
+module _ (m : List ℕ) (all : List (List ℕ)) (p : ℕ) (later : List (List ℕ)) (f : Limits) (words pos : List ℕ) (n : ℕ) (placed : Placed m words pos n)
     (g : Gathering m all (take 32 (drop p m) ∷ later) f pos n) (b : Bool) (e : b ≡ wants f (bigEndian 32 (drop p m)) n (keyAt m pos 0)) where
   abbrev id : List ℕ
   id = take 32 (drop p m)
@@ -246,7 +272,7 @@ has-moved x d (e ∷ a) b =
     ∙ ap (λ (q : Bool). q || has x (numbers (a ++ b))) (or-comm (eqb x (bigEndian 32 e)) (eqb x (bigEndian 32 d)))
     ∙ or-assoc (eqb x (bigEndian 32 d)) (eqb x (bigEndian 32 e)) (has x (numbers (a ++ b))))
 
-moved-first : (m : List ℕ) (all : List (List ℕ)) (d : List ℕ) (a b : List (List ℕ)) (f : ℕ) (pos : List ℕ) (n : ℕ)
+moved-first : (m : List ℕ) (all : List (List ℕ)) (d : List ℕ) (a b : List (List ℕ)) (f : Limits) (pos : List ℕ) (n : ℕ)
     → Gathering m all (a ++ (d ∷ b)) f pos n → Gathering m all (d ∷ (a ++ b)) f pos n
 moved-first m all d a b f pos n g = record {
   left = λ x e. g .left x (has-moved x d a b ∙ e);
@@ -263,7 +289,7 @@ pub picked-none : (o : List (List ℕ)) (m picks : List ℕ) (k : ℕ) (rest : L
 unfolding keep pickedAt
 picked-none o m picks k rest e = rw e refl
 
-module _ (o : List (List ℕ)) (m : List ℕ) (all rest : List (List ℕ)) (f : ℕ) (pos : List ℕ) (n : ℕ) where
+module _ (o : List (List ℕ)) (m : List ℕ) (all rest : List (List ℕ)) (f : Limits) (pos : List ℕ) (n : ℕ) where
   -- the next id of a list joins those that are picked
   pub pick-next : (at count i : ℕ) (ds : List (List ℕ)) → i < count → Gathering m all (keep (lacks o) ds ++ (othersFrom o m at count i ++ rest)) f pos n
       → Gathering m all (keep (lacks o) (take 32 (drop (at + i * 32) m) ∷ ds) ++ (othersFrom o m at count (i + 1) ++ rest)) f pos n
@@ -363,18 +389,13 @@ found-told own m bytes picks start owned count found k h i l = rw (part-from own
 
 -- ---- the ranges of a message
 
--- the own ids of a span are the bytes of the table there
-unowned-span : (T : Table) (s : Span) → s .hi ≤ length (T .times) → (x : Bound) → within x (upperOf s) (items T) ≡ ownIn T s → (l : List (List ℕ))
-    → unowned (items T) x (upperOf s) (ids l) ≡ others (T .ids) s l
-unowned-span T s h x e l = unowned-is T s x e l ∙ ap (λ (o : List (List ℕ)). keep (lacks o) l) (ids-run T (s .lo) (s .hi) h)
-
 pub none-placed : (m words pos : List ℕ) → Placed m words pos 0
 none-placed m words pos = record { few = omega arith; points = λ k l. absurd (omega arith); worded = λ k l. absurd (omega arith); heap = λ e. absurd (omega arith) }
 
-pub none-gathered : (m : List ℕ) (all : List (List ℕ)) (f : ℕ) (pos : List ℕ) → Gathering m all all f pos 0
+pub none-gathered : (m : List ℕ) (all : List (List ℕ)) (f : Limits) (pos : List ℕ) → Gathering m all all f pos 0
 none-gathered m all f pos = record { left = λ x e. e; from = λ k l. absurd (omega arith); holds = λ x e l. inl e }
 
-module _ (T : Table) (m : List ℕ) (w : Walk) (all : List (List ℕ)) (f : ℕ) (pos : List ℕ) (n : ℕ) (g : Gathering m all (addedFrom T m w) f pos n) where
+module _ (T : Table) (m : List ℕ) (w : Walk) (all : List (List ℕ)) (f : Limits) (pos : List ℕ) (n : ℕ) (g : Gathering m all (addedFrom T m w) f pos n) where
   module _ (s : Step) (k : Stepped T m w s) where
     step-left : (us : List (List ℕ)) → rangeAdds T m w s ≡ us → Gathering m all (us ++ addedFrom T m (s .next)) f pos n
     step-left us e = rw (added-next T m w s k, e) at g
@@ -406,7 +427,7 @@ module _ (T : Table) (m : List ℕ) (w : Walk) (all : List (List ℕ)) (f : ℕ)
 -- ---- a window
 
 -- the places that were gathered, sorted, one for each id
-module _ (m : List ℕ) (all : List (List ℕ)) (f : ℕ) (words pos : List ℕ) (n : ℕ) (g : Gathered m all f words pos n) (sorted : List ℕ) (moved : Rearranged pos sorted n)
+module _ (m : List ℕ) (all : List (List ℕ)) (f : Limits) (words pos : List ℕ) (n : ℕ) (g : Gathered m all f words pos n) (sorted : List ℕ) (moved : Rearranged pos sorted n)
     (once : List ℕ) (r : ℕ) (d : Distinct m sorted n once r) where
   once-from : (k : ℕ) → k < r → (j : ℕ) × (j < n) × (keyAt m pos j ≡ keyAt m once k)
   once-from k l = let i = d .from k l in let j = keys-from m pos sorted n moved (i .0) (i .1) in (j .0, j .1, j .2 ∙ i .2)

@@ -1,28 +1,42 @@
--- For contracts of functions that only our own crates call: the smallest of the ids `all` that a reply adds, from the number f on.
-use Prim.Native.Nat.{ℕ, zero, suc, _+_, _-_, _*_, _≤_, _<_}
+-- For contracts of functions that only our own crates call: the smallest of the ids `all` that a reply adds, within the limits f.
+use Prim.Native.Nat.{ℕ, zero, suc, _+_, _-_, _*_, _^_, _≤_, _<_}
 use mathlib.Core.Path.{_≡_}
-use mathlib.Core.Bool.{Bool, true, cond, not, _&&_, _||_}
+use mathlib.Core.Bool.{Bool, true, false, cond, _&&_, _||_}
 use mathlib.Core.List.{List, [], _∷_, map}
 use mathlib.Core.Logic.{_⊎_}
 use lib.Dec.{leb, ltb}
 use lib.ListN.{length, take, drop, getD}
 use Rattle.message.specs.Bound.{bigEndian}
-use Rattle.message.specs.Code.{idsIn}
 use Rattle.theory.specs.Table.{has}
-use Rattle.table.specs.Lists.{keep}
-use Rattle.cutting.specs.declared.Span.{Span}
 use Rattle.ends.specs.Lists.{some, same}
 use Rattle.idlist.specs.Positions.{keyAt, Pointing, KeysRise}
 use Rattle.index.specs.Sorting.{Heap, Worded}
+use Rattle.window.specs.declared.Interval.{Interval}
 use Rattle.window.specs.declared.Window.{Window}
 
--- the first window is from 0 on, any other from above the id at place `floor`
-abbrev pub fromBy : Bool → ℕ → List ℕ → ℕ
-fromBy first floor m = cond first 0 (suc (bigEndian 32 (drop floor m)))
+-- how many ids begin with the same eight bytes
+unfoldable pub wordSpan : ℕ
+wordSpan = 256 ^ 24
 
--- whether the number x belongs to the n smallest from f on: there is room, or it is below the largest
-abbrev pub wants : ℕ → ℕ → ℕ → ℕ → Bool
-wants f x n largest = leb f x && (ltb n 11008 || ltb x largest)
+-- the numbers from `from` on that are below `to`
+pub record Limits : Type 0 where
+  pub from : ℕ
+  pub to : ℕ
+
+abbrev pub Within : Limits → ℕ → Type 0
+Within f x = (f .from ≤ x) × (x < f .to)
+
+-- those of the ids that a window may have
+abbrev pub limits : Interval → List ℕ → Limits
+limits i m = record { from = cond (i .first) (i .low * wordSpan) (suc (bigEndian 32 (drop (i .floor) m))); to = (i .last + 1) * wordSpan }
+
+-- a whole id stands at place `floor` unless the window is the first
+abbrev pub Floored : Interval → List ℕ → Type 0
+Floored i m = i .first ≡ false → i .floor + 32 ≤ length m
+
+-- whether the number x belongs to the n smallest within the limits f: there is room, or it is below the largest
+abbrev pub wants : Limits → ℕ → ℕ → ℕ → Bool
+wants f x n largest = ltb x (f .to) && (leb (f .from) x && (ltb n 11008 || ltb x largest))
 
 -- the number x is that of one of the first n places, or there is no room for it: it is at least `largest`
 pub data Held (m pos : List ℕ) (n largest : ℕ) (full : Type 0) (x : ℕ) : Type 0 where
@@ -30,22 +44,22 @@ pub data Held (m pos : List ℕ) (n largest : ℕ) (full : Type 0) (x : ℕ) : T
   beyond : full → largest ≤ x → Held m pos n largest full x
 
 -- the n smallest, with their words, in a heap where there is no more room
-pub record Gathered (m : List ℕ) (all : List (List ℕ)) (f : ℕ) (words pos : List ℕ) (n : ℕ) : Type 0 where
+pub record Gathered (m : List ℕ) (all : List (List ℕ)) (f : Limits) (words pos : List ℕ) (n : ℕ) : Type 0 where
   pub few : n ≤ 11008
   pub points : Pointing m pos n
   pub worded : Worded m words pos n
   pub heap : n ≡ 11008 → Heap m pos 0 n
-  pub from : (k : ℕ) → k < n → (f ≤ keyAt m pos k) × (has (keyAt m pos k) (map (bigEndian 32) all) ≡ true)
-  pub holds : (x : ℕ) → has x (map (bigEndian 32) all) ≡ true → f ≤ x → Held m pos n (keyAt m pos 0) (n ≡ 11008) x
+  pub from : (k : ℕ) → k < n → Within f (keyAt m pos k) × (has (keyAt m pos k) (map (bigEndian 32) all) ≡ true)
+  pub holds : (x : ℕ) → has x (map (bigEndian 32) all) ≡ true → Within f x → Held m pos n (keyAt m pos 0) (n ≡ 11008) x
 
 -- a window: its ids rise strictly, and are all that there are up to its last, or all where it is not full
-pub record Windowed (m : List ℕ) (all : List (List ℕ)) (f : ℕ) (pos : List ℕ) (w : Window) : Type 0 where
+pub record Windowed (m : List ℕ) (all : List (List ℕ)) (f : Limits) (pos : List ℕ) (w : Window) : Type 0 where
   pub few : w .count ≤ 11008
   pub some : w .full ≡ true → 0 < w .count
   pub points : Pointing m pos (w .count)
   pub rises : KeysRise m pos (w .count)
-  pub from : (k : ℕ) → k < w .count → (f ≤ keyAt m pos k) × (has (keyAt m pos k) (map (bigEndian 32) all) ≡ true)
-  pub holds : (x : ℕ) → has x (map (bigEndian 32) all) ≡ true → f ≤ x → Held m pos (w .count) (keyAt m pos (w .count - 1)) (w .full ≡ true) x
+  pub from : (k : ℕ) → k < w .count → Within f (keyAt m pos k) × (has (keyAt m pos k) (map (bigEndian 32) all) ≡ true)
+  pub holds : (x : ℕ) → has x (map (bigEndian 32) all) ≡ true → Within f x → Held m pos (w .count) (keyAt m pos (w .count - 1)) (w .full ≡ true) x
 
 -- whole ids stand at n places, with their words, in a heap where there is no more room
 pub record Placed (m words pos : List ℕ) (n : ℕ) : Type 0 where
@@ -62,14 +76,6 @@ pub record Offered (m before : List ℕ) (n p : ℕ) (words after : List ℕ) (r
   pub joined : (j : ℕ) × (j < r) × (getD after j 0 ≡ p)
   pub from : (k : ℕ) → k < r → (getD after k 0 ≡ p) ⊎ ((j : ℕ) × (j < n) × (getD before j 0 ≡ getD after k 0))
   pub kept : (k : ℕ) → k < n → ((j : ℕ) × (j < r) × (getD after j 0 ≡ getD before k 0)) ⊎ ((n ≡ 11008) × (k ≡ 0))
-
--- the ids of a list that are none of the ids o
-abbrev pub without : List (List ℕ) → List (List ℕ) → List (List ℕ)
-without o l = keep (λ d. not (some (same d) o)) l
-
--- the ids of a list that no own item of the span has; `own` is the bytes of all own ids
-abbrev pub others : List ℕ → Span → List (List ℕ) → List (List ℕ)
-others own span l = without (idsIn (span .hi - span .lo) (drop (span .lo * 32) own)) l
 
 -- the ids at the first n of some places, the last of them first
 unfoldable pub pickedAt : List ℕ → List ℕ → ℕ → List (List ℕ)
@@ -93,7 +99,7 @@ abbrev pub FoundAt : List (List ℕ) → List ℕ → List ℕ → List ℕ → 
 FoundAt o found m picks n = (k : ℕ) → k < n → getD found k 0 ≡ cond (some (same (take 32 (drop (getD picks k 0) m))) o) 1 0
 
 -- as Gathered, but with the ids `rest` of `all` still to come
-pub record Gathering (m : List ℕ) (all rest : List (List ℕ)) (f : ℕ) (pos : List ℕ) (n : ℕ) : Type 0 where
+pub record Gathering (m : List ℕ) (all rest : List (List ℕ)) (f : Limits) (pos : List ℕ) (n : ℕ) : Type 0 where
   pub left : (x : ℕ) → has x (map (bigEndian 32) rest) ≡ true → has x (map (bigEndian 32) all) ≡ true
-  pub from : (k : ℕ) → k < n → (f ≤ keyAt m pos k) × (has (keyAt m pos k) (map (bigEndian 32) all) ≡ true)
-  pub holds : (x : ℕ) → has x (map (bigEndian 32) all) ≡ true → f ≤ x → (has x (map (bigEndian 32) rest) ≡ true) ⊎ Held m pos n (keyAt m pos 0) (n ≡ 11008) x
+  pub from : (k : ℕ) → k < n → Within f (keyAt m pos k) × (has (keyAt m pos k) (map (bigEndian 32) all) ≡ true)
+  pub holds : (x : ℕ) → has x (map (bigEndian 32) all) ≡ true → Within f x → (has x (map (bigEndian 32) rest) ≡ true) ⊎ Held m pos n (keyAt m pos 0) (n ≡ 11008) x

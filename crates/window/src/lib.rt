@@ -1,21 +1,28 @@
 // The ids that a reply adds to the needed list, in windows: the smallest of them from some id on, as many as have room, rising and without repeats. Each
-// window is a walk over the whole reply. For our own crates.
+// window is a walk over the whole reply. The words of the ids, their first eight bytes as numbers, are parted into intervals, and each window has ids of one of them only. For our own crates.
 use crate::select::gather;
 use index::sorting::distinct;
 use index::sorting::sort;
-ghost use Prim.Native.Nat.{_+_, _≤_};
 ghost use mathlib.Core.Path.{_≡_};
-ghost use mathlib.Core.Bool.{false};
 ghost use lib.ListN.{length};
 ghost use Rattle.table.specs.Code.{lent};
 ghost use Rattle.table.specs.Private.{Passed};
 ghost use Rattle.index.specs.Lookup.{Room};
 ghost use Rattle.index.specs.Sorting.{Worded};
 ghost use Rattle.walk.specs.Walking.{starts, Walking};
-ghost use Rattle.window.specs.Adding.{addedFrom};
-ghost use Rattle.window.specs.Windows.{fromBy, Picking, Windowed};
+ghost use Rattle.walk.specs.Adding.{addedFrom};
+ghost use Rattle.window.specs.Windows.{limits, Floored, Picking, Windowed};
 
 mod select;
+pub mod spread;
+
+// The ids that a window may have: their words are from `low` to `last`, and they are above the id at place `floor` unless it is the `first` window of the interval.
+pub struct Interval {
+    pub low: u64,
+    pub last: u64,
+    pub first: bool,
+    pub floor: usize,
+}
 
 // How many ids the window has, and whether there may be more behind it.
 pub struct Window {
@@ -23,15 +30,14 @@ pub struct Window {
     pub full: bool,
 }
 
-// The next window: the places of its ids, rising, at the front of `pos`, and their words at the front of `words`. The ids are those that the reply adds, the
-// smallest of them above the id at place `floor`, or the smallest of all if it is the `first` window. `keys`, `places`, `found`, `ids` and `picks`
+// The next window: the places of its ids, rising, at the front of `pos`, and their words at the front of `words`. The ids are the
+// smallest of those of the interval that the reply adds. `keys`, `places`, `found`, `ids` and `picks`
 // are room for looking ids up.
 pub fn next_window(
     times: &[u64],
     own: &[u8],
     m: &[u8],
-    first: bool,
-    floor: usize,
+    interval: Interval,
     words: &mut [u64],
     pos: &mut [usize],
     keys: &mut [u64],
@@ -40,15 +46,14 @@ pub fn next_window(
     ids: &mut [u8],
     picks: &mut [usize],
 ) -> Window
-    requires { ⌜ Passed (lent (now times) (now own)) × Walking (lent (now times) (now own)) (now m) starts × (length (now words) ≡ 11008) × (length (now pos) ≡ 11008) × (first ≡ false → floor + 32 ≤ length (now m)) × Room (now keys) (now places) (now found) × Picking (now ids) (now picks) (now found) ⌝ }
-    ensures { λ r. ⌜ Windowed (now (m .entry)) (addedFrom (lent (now (times .entry)) (now (own .entry))) (now (m .entry)) starts) (fromBy first floor (now (m .entry))) (now (pos .exit)) r × Worded (now (m .entry)) (now (words .exit)) (now (pos .exit)) (r .count) ⌝ }
+    requires { ⌜ Passed (lent (now times) (now own)) × Walking (lent (now times) (now own)) (now m) starts × (length (now words) ≡ 11008) × (length (now pos) ≡ 11008) × Floored interval (now m) × Room (now keys) (now places) (now found) × Picking (now ids) (now picks) (now found) ⌝ }
+    ensures { λ r. ⌜ Windowed (now (m .entry)) (addedFrom (lent (now (times .entry)) (now (own .entry))) (now (m .entry)) starts) (limits interval (now (m .entry))) (now (pos .exit)) r × Worded (now (m .entry)) (now (words .exit)) (now (pos .exit)) (r .count) ⌝ }
 {
     let count = gather(
         times,
         own,
         m,
-        first,
-        floor,
+        interval,
         words,
         pos,
         keys,

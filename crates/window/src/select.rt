@@ -1,4 +1,5 @@
-// The smallest ids that a reply adds, from some id on, as many as have room: their places, in a heap once there is no more room.
+// The smallest ids of an interval that a reply adds, as many as have room: their places, in a heap once there is no more room.
+use crate::Interval;
 use cutting::Span;
 use index::lookup::contains_each;
 use index::sorting::build;
@@ -11,7 +12,7 @@ ghost use Prim.Native.Nat.{ℕ, _+_, _-_, _*_, _≤_, _<_};
 ghost use mathlib.Core.Path.{_≡_};
 ghost use mathlib.Core.Bool.{false, cond};
 ghost use mathlib.Core.List.{List, _∷_, _++_};
-ghost use lib.Dec.{eqb, ltb};
+ghost use lib.Dec.{eqb, leb, ltb};
 ghost use lib.ListN.{length, take, drop};
 ghost use Rattle.message.specs.Bound.{bigEndian};
 ghost use Rattle.message.specs.Code.{idsIn};
@@ -20,8 +21,8 @@ ghost use Rattle.table.specs.Private.{Passed};
 ghost use Rattle.walk.specs.Walking.{starts, Walking};
 ghost use Rattle.idlist.specs.Positions.{keyAt, Pointing};
 ghost use Rattle.index.specs.Lookup.{Room};
-ghost use Rattle.window.specs.Adding.{addedFrom};
-ghost use Rattle.window.specs.Windows.{fromBy, wants, Placed, Offered, without, others, pickedAt, Picked, Picking, FoundAt, Gathering, Gathered};
+ghost use Rattle.walk.specs.Adding.{addedFrom, without, others};
+ghost use Rattle.window.specs.Windows.{limits, Floored, wants, Placed, Offered, pickedAt, Picked, Picking, FoundAt, Gathering, Gathered};
 
 // A list is gone through up to id number `next`, and `count` of its ids are picked.
 struct Picks {
@@ -43,24 +44,29 @@ fn comes_before(m: &[u8], p: usize, v: u64, q: usize, w: u64) -> bool
     id_below(&m[p..], &m[q..])
 }
 
-// Whether the id at place p belongs to the n smallest so far: it is above the floor, and there is room or it is below the largest.
-fn wanted(
-    m: &[u8],
-    first: bool,
-    floor: usize,
-    words: &[u64],
-    pos: &[usize],
-    n: usize,
-    p: usize,
-) -> bool
-    requires { ⌜ (p + 32 ≤ length (now m)) × (first ≡ false → floor + 32 ≤ length (now m)) × (length (now words) ≡ 11008) × (length (now pos) ≡ 11008) × Placed (now m) (now words) (now pos) n ⌝ }
-    ensures { λ r. ⌜ r ≡ wants (fromBy first floor (now (m .entry))) (bigEndian 32 (drop p (now (m .entry)))) n (keyAt (now (m .entry)) (now (pos .entry)) 0) ⌝ }
+// Whether the id at place p, whose first eight bytes are v, is not below those of the interval.
+fn reaches(m: &[u8], interval: Interval, p: usize, v: u64) -> bool
+    requires { ⌜ (p + 32 ≤ length (now m)) × Floored interval (now m) × (v ≡ bigEndian 8 (drop p (now m))) ⌝ }
+    ensures { λ r. ⌜ r ≡ leb (limits interval (now (m .entry)) .from) (bigEndian 32 (drop p (now (m .entry)))) ⌝ }
+{
+    if interval.first {
+        return interval.low <= v;
+    }
+    let floor = interval.floor;
+    comes_before(m, floor, word(m, floor), p, v)
+}
+
+// Whether the id at place p belongs to the n smallest so far: it is one of the interval, and there is room or it is below the largest.
+fn wanted(m: &[u8], interval: Interval, words: &[u64], pos: &[usize], n: usize, p: usize) -> bool
+    requires { ⌜ (p + 32 ≤ length (now m)) × Floored interval (now m) × (length (now words) ≡ 11008) × (length (now pos) ≡ 11008) × Placed (now m) (now words) (now pos) n ⌝ }
+    ensures { λ r. ⌜ r ≡ wants (limits interval (now (m .entry))) (bigEndian 32 (drop p (now (m .entry)))) n (keyAt (now (m .entry)) (now (pos .entry)) 0) ⌝ }
 {
     let v = word(m, p);
-    if !first {
-        if !comes_before(m, floor, word(m, floor), p, v) {
-            return false;
-        }
+    if interval.last < v {
+        return false;
+    }
+    if !reaches(m, interval, p, v) {
+        return false;
     }
     if n < 11008 {
         return true;
@@ -92,21 +98,20 @@ fn offer(m: &[u8], words: &mut [u64], pos: &mut [usize], n: usize, p: usize) -> 
 // Takes the place p in where its id is wanted and `found` is 0; how many places there are then.
 fn offer_unless(
     m: &[u8],
-    first: bool,
-    floor: usize,
+    interval: Interval,
     words: &mut [u64],
     pos: &mut [usize],
     n: usize,
     p: usize,
     found: u8,
 ) -> usize
-    requires { ⌜ (p + 32 ≤ length (now m)) × (first ≡ false → floor + 32 ≤ length (now m)) × (length (now words) ≡ 11008) × (length (now pos) ≡ 11008) × Placed (now m) (now words) (now pos) n ⌝ }
-    ensures { λ r. ⌜ Placed (now (m .entry)) (now (words .exit)) (now (pos .exit)) r × ((all rest : List (List ℕ)) → Gathering (now (m .entry)) all (cond (eqb found 0) (take 32 (drop p (now (m .entry))) ∷ rest) rest) (fromBy first floor (now (m .entry))) (now (pos .entry)) n → Gathering (now (m .entry)) all rest (fromBy first floor (now (m .entry))) (now (pos .exit)) r) ⌝ }
+    requires { ⌜ (p + 32 ≤ length (now m)) × Floored interval (now m) × (length (now words) ≡ 11008) × (length (now pos) ≡ 11008) × Placed (now m) (now words) (now pos) n ⌝ }
+    ensures { λ r. ⌜ Placed (now (m .entry)) (now (words .exit)) (now (pos .exit)) r × ((all rest : List (List ℕ)) → Gathering (now (m .entry)) all (cond (eqb found 0) (take 32 (drop p (now (m .entry))) ∷ rest) rest) (limits interval (now (m .entry))) (now (pos .entry)) n → Gathering (now (m .entry)) all rest (limits interval (now (m .entry))) (now (pos .exit)) r) ⌝ }
 {
     if found != 0 {
         return n;
     }
-    if !wanted(m, first, floor, words, pos, n, p) {
+    if !wanted(m, interval, words, pos, n, p) {
         return n;
     }
     offer(m, words, pos, n, p)
@@ -118,20 +123,19 @@ fn offer_picked(
     picks: &[usize],
     count: usize,
     found: &[u8],
-    first: bool,
-    floor: usize,
+    interval: Interval,
     words: &mut [u64],
     pos: &mut [usize],
     n: usize,
 ) -> usize
-    requires { ⌜ (count ≤ length (now picks)) × (count ≤ length (now found)) × Pointing (now m) (now picks) count × (first ≡ false → floor + 32 ≤ length (now m)) × (length (now words) ≡ 11008) × (length (now pos) ≡ 11008) × Placed (now m) (now words) (now pos) n ⌝ }
-    ensures { λ r. ⌜ Placed (now (m .entry)) (now (words .exit)) (now (pos .exit)) r × ((o all rest : List (List ℕ)) → FoundAt o (now (found .entry)) (now (m .entry)) (now (picks .entry)) count → Gathering (now (m .entry)) all (without o (pickedAt (now (m .entry)) (now (picks .entry)) count) ++ rest) (fromBy first floor (now (m .entry))) (now (pos .entry)) n → Gathering (now (m .entry)) all rest (fromBy first floor (now (m .entry))) (now (pos .exit)) r) ⌝ }
+    requires { ⌜ (count ≤ length (now picks)) × (count ≤ length (now found)) × Pointing (now m) (now picks) count × Floored interval (now m) × (length (now words) ≡ 11008) × (length (now pos) ≡ 11008) × Placed (now m) (now words) (now pos) n ⌝ }
+    ensures { λ r. ⌜ Placed (now (m .entry)) (now (words .exit)) (now (pos .exit)) r × ((o all rest : List (List ℕ)) → FoundAt o (now (found .entry)) (now (m .entry)) (now (picks .entry)) count → Gathering (now (m .entry)) all (without o (pickedAt (now (m .entry)) (now (picks .entry)) count) ++ rest) (limits interval (now (m .entry))) (now (pos .entry)) n → Gathering (now (m .entry)) all rest (limits interval (now (m .entry))) (now (pos .exit)) r) ⌝ }
 {
     let mut n = n;
     let mut k = count;
     while 0 < k {
         k -= 1;
-        n = offer_unless(m, first, floor, words, pos, n, picks[k], found[k]);
+        n = offer_unless(m, interval, words, pos, n, picks[k], found[k]);
     }
     n
 }
@@ -151,8 +155,7 @@ fn copy_id(ids: &mut [u8], at: usize, id: &[u8])
 // Adds the place p to k picked ones where its id is wanted, with the bytes of the id; how many there are then.
 fn pick_id(
     m: &[u8],
-    first: bool,
-    floor: usize,
+    interval: Interval,
     words: &[u64],
     pos: &[usize],
     n: usize,
@@ -161,10 +164,10 @@ fn pick_id(
     picks: &mut [usize],
     k: usize,
 ) -> usize
-    requires { ⌜ (p + 32 ≤ length (now m)) × (first ≡ false → floor + 32 ≤ length (now m)) × (length (now words) ≡ 11008) × (length (now pos) ≡ 11008) × Placed (now m) (now words) (now pos) n × (k < length (now picks)) × (length (now picks) * 32 ≤ length (now ids)) × Picked (now m) (now ids) (now picks) k ⌝ }
-    ensures { λ r. ⌜ (r ≤ k + 1) × Picked (now (m .entry)) (now (ids .exit)) (now (picks .exit)) r × ((o all rest : List (List ℕ)) → Gathering (now (m .entry)) all (without o (take 32 (drop p (now (m .entry))) ∷ pickedAt (now (m .entry)) (now (picks .entry)) k) ++ rest) (fromBy first floor (now (m .entry))) (now (pos .entry)) n → Gathering (now (m .entry)) all (without o (pickedAt (now (m .entry)) (now (picks .exit)) r) ++ rest) (fromBy first floor (now (m .entry))) (now (pos .entry)) n) ⌝ }
+    requires { ⌜ (p + 32 ≤ length (now m)) × Floored interval (now m) × (length (now words) ≡ 11008) × (length (now pos) ≡ 11008) × Placed (now m) (now words) (now pos) n × (k < length (now picks)) × (length (now picks) * 32 ≤ length (now ids)) × Picked (now m) (now ids) (now picks) k ⌝ }
+    ensures { λ r. ⌜ (r ≤ k + 1) × Picked (now (m .entry)) (now (ids .exit)) (now (picks .exit)) r × ((o all rest : List (List ℕ)) → Gathering (now (m .entry)) all (without o (take 32 (drop p (now (m .entry))) ∷ pickedAt (now (m .entry)) (now (picks .entry)) k) ++ rest) (limits interval (now (m .entry))) (now (pos .entry)) n → Gathering (now (m .entry)) all (without o (pickedAt (now (m .entry)) (now (picks .exit)) r) ++ rest) (limits interval (now (m .entry))) (now (pos .entry)) n) ⌝ }
 {
-    if !wanted(m, first, floor, words, pos, n, p) {
+    if !wanted(m, interval, words, pos, n, p) {
         return k;
     }
     copy_id(ids, k * 32, &m[p..]);
@@ -179,16 +182,15 @@ fn pick(
     at: usize,
     start: usize,
     count: usize,
-    first: bool,
-    floor: usize,
+    interval: Interval,
     words: &[u64],
     pos: &[usize],
     n: usize,
     ids: &mut [u8],
     picks: &mut [usize],
 ) -> Picks
-    requires { ⌜ (at + count * 32 ≤ length (now m)) × (start < count) × (first ≡ false → floor + 32 ≤ length (now m)) × (length (now words) ≡ 11008) × (length (now pos) ≡ 11008) × Placed (now m) (now words) (now pos) n × (0 < length (now picks)) × (length (now picks) * 32 ≤ length (now ids)) ⌝ }
-    ensures { λ r. ⌜ (start < r .next) × (r .next ≤ count) × Picked (now (m .entry)) (now (ids .exit)) (now (picks .exit)) (r .count) × ((o all rest : List (List ℕ)) → Gathering (now (m .entry)) all (without o (idsIn (count - start) (drop (at + start * 32) (now (m .entry)))) ++ rest) (fromBy first floor (now (m .entry))) (now (pos .entry)) n → Gathering (now (m .entry)) all (without o (pickedAt (now (m .entry)) (now (picks .exit)) (r .count)) ++ (without o (idsIn (count - r .next) (drop (at + r .next * 32) (now (m .entry)))) ++ rest)) (fromBy first floor (now (m .entry))) (now (pos .entry)) n) ⌝ }
+    requires { ⌜ (at + count * 32 ≤ length (now m)) × (start < count) × Floored interval (now m) × (length (now words) ≡ 11008) × (length (now pos) ≡ 11008) × Placed (now m) (now words) (now pos) n × (0 < length (now picks)) × (length (now picks) * 32 ≤ length (now ids)) ⌝ }
+    ensures { λ r. ⌜ (start < r .next) × (r .next ≤ count) × Picked (now (m .entry)) (now (ids .exit)) (now (picks .exit)) (r .count) × ((o all rest : List (List ℕ)) → Gathering (now (m .entry)) all (without o (idsIn (count - start) (drop (at + start * 32) (now (m .entry)))) ++ rest) (limits interval (now (m .entry))) (now (pos .entry)) n → Gathering (now (m .entry)) all (without o (pickedAt (now (m .entry)) (now (picks .exit)) (r .count)) ++ (without o (idsIn (count - r .next) (drop (at + r .next * 32) (now (m .entry)))) ++ rest)) (limits interval (now (m .entry))) (now (pos .entry)) n) ⌝ }
 {
     let mut next = start;
     let mut k = 0;
@@ -196,18 +198,7 @@ fn pick(
         if picks.len() <= k {
             return Picks { next, count: k };
         }
-        k = pick_id(
-            m,
-            first,
-            floor,
-            words,
-            pos,
-            n,
-            at + next * 32,
-            ids,
-            picks,
-            k,
-        );
+        k = pick_id(m, interval, words, pos, n, at + next * 32, ids, picks, k);
         next += 1;
     }
     Picks { next, count: k }
@@ -221,8 +212,7 @@ fn offer_others(
     ids: &[u8],
     picks: &[usize],
     count: usize,
-    first: bool,
-    floor: usize,
+    interval: Interval,
     words: &mut [u64],
     pos: &mut [usize],
     keys: &mut [u64],
@@ -230,8 +220,8 @@ fn offer_others(
     found: &mut [u8],
     n: usize,
 ) -> usize
-    requires { ⌜ (span .lo ≤ span .hi) × (span .hi * 32 ≤ length (now own)) × Picked (now m) (now ids) (now picks) count × (first ≡ false → floor + 32 ≤ length (now m)) × (length (now words) ≡ 11008) × (length (now pos) ≡ 11008) × Placed (now m) (now words) (now pos) n × Room (now keys) (now places) (now found) × Picking (now ids) (now picks) (now found) ⌝ }
-    ensures { λ r. ⌜ Placed (now (m .entry)) (now (words .exit)) (now (pos .exit)) r × ((all rest : List (List ℕ)) → Gathering (now (m .entry)) all (others (now (own .entry)) span (pickedAt (now (m .entry)) (now (picks .entry)) count) ++ rest) (fromBy first floor (now (m .entry))) (now (pos .entry)) n → Gathering (now (m .entry)) all rest (fromBy first floor (now (m .entry))) (now (pos .exit)) r) ⌝ }
+    requires { ⌜ (span .lo ≤ span .hi) × (span .hi * 32 ≤ length (now own)) × Picked (now m) (now ids) (now picks) count × Floored interval (now m) × (length (now words) ≡ 11008) × (length (now pos) ≡ 11008) × Placed (now m) (now words) (now pos) n × Room (now keys) (now places) (now found) × Picking (now ids) (now picks) (now found) ⌝ }
+    ensures { λ r. ⌜ Placed (now (m .entry)) (now (words .exit)) (now (pos .exit)) r × ((all rest : List (List ℕ)) → Gathering (now (m .entry)) all (others (now (own .entry)) span (pickedAt (now (m .entry)) (now (picks .entry)) count) ++ rest) (limits interval (now (m .entry))) (now (pos .entry)) n → Gathering (now (m .entry)) all rest (limits interval (now (m .entry))) (now (pos .exit)) r) ⌝ }
 {
     if count == 0 {
         return n;
@@ -239,7 +229,7 @@ fn offer_others(
     let start = span.lo * 32;
     let owned = span.hi - span.lo;
     contains_each(&own[start..], owned, ids, count, keys, places, found);
-    offer_picked(m, picks, count, found, first, floor, words, pos, n)
+    offer_picked(m, picks, count, found, interval, words, pos, n)
 }
 
 // Takes in those of a list of `count` ids at a place of the reply that are wanted and that no own item of the range has. Only wanted ids are looked
@@ -250,8 +240,7 @@ fn gather_list(
     span: Span,
     count: usize,
     at: usize,
-    first: bool,
-    floor: usize,
+    interval: Interval,
     words: &mut [u64],
     pos: &mut [usize],
     keys: &mut [u64],
@@ -261,13 +250,13 @@ fn gather_list(
     picks: &mut [usize],
     n: usize,
 ) -> usize
-    requires { ⌜ (span .lo ≤ span .hi) × (span .hi * 32 ≤ length (now own)) × (at + count * 32 ≤ length (now m)) × (first ≡ false → floor + 32 ≤ length (now m)) × (length (now words) ≡ 11008) × (length (now pos) ≡ 11008) × Placed (now m) (now words) (now pos) n × Room (now keys) (now places) (now found) × Picking (now ids) (now picks) (now found) ⌝ }
-    ensures { λ r. ⌜ Placed (now (m .entry)) (now (words .exit)) (now (pos .exit)) r × ((all rest : List (List ℕ)) → Gathering (now (m .entry)) all (others (now (own .entry)) span (idsIn count (drop at (now (m .entry)))) ++ rest) (fromBy first floor (now (m .entry))) (now (pos .entry)) n → Gathering (now (m .entry)) all rest (fromBy first floor (now (m .entry))) (now (pos .exit)) r) ⌝ }
+    requires { ⌜ (span .lo ≤ span .hi) × (span .hi * 32 ≤ length (now own)) × (at + count * 32 ≤ length (now m)) × Floored interval (now m) × (length (now words) ≡ 11008) × (length (now pos) ≡ 11008) × Placed (now m) (now words) (now pos) n × Room (now keys) (now places) (now found) × Picking (now ids) (now picks) (now found) ⌝ }
+    ensures { λ r. ⌜ Placed (now (m .entry)) (now (words .exit)) (now (pos .exit)) r × ((all rest : List (List ℕ)) → Gathering (now (m .entry)) all (others (now (own .entry)) span (idsIn count (drop at (now (m .entry)))) ++ rest) (limits interval (now (m .entry))) (now (pos .entry)) n → Gathering (now (m .entry)) all rest (limits interval (now (m .entry))) (now (pos .exit)) r) ⌝ }
 {
     let mut n = n;
     let mut i = 0;
     while i < count {
-        let p = pick(m, at, i, count, first, floor, words, pos, n, ids, picks);
+        let p = pick(m, at, i, count, interval, words, pos, n, ids, picks);
         n = offer_others(
             own,
             m,
@@ -275,8 +264,7 @@ fn gather_list(
             ids,
             picks,
             p.count,
-            first,
-            floor,
+            interval,
             words,
             pos,
             keys,
@@ -294,8 +282,7 @@ pub(crate) fn gather(
     times: &[u64],
     own: &[u8],
     m: &[u8],
-    first: bool,
-    floor: usize,
+    interval: Interval,
     words: &mut [u64],
     pos: &mut [usize],
     keys: &mut [u64],
@@ -304,8 +291,8 @@ pub(crate) fn gather(
     ids: &mut [u8],
     picks: &mut [usize],
 ) -> usize
-    requires { ⌜ Passed (lent (now times) (now own)) × Walking (lent (now times) (now own)) (now m) starts × (length (now words) ≡ 11008) × (length (now pos) ≡ 11008) × (first ≡ false → floor + 32 ≤ length (now m)) × Room (now keys) (now places) (now found) × Picking (now ids) (now picks) (now found) ⌝ }
-    ensures { λ r. ⌜ Gathered (now (m .entry)) (addedFrom (lent (now (times .entry)) (now (own .entry))) (now (m .entry)) starts) (fromBy first floor (now (m .entry))) (now (words .exit)) (now (pos .exit)) r ⌝ }
+    requires { ⌜ Passed (lent (now times) (now own)) × Walking (lent (now times) (now own)) (now m) starts × (length (now words) ≡ 11008) × (length (now pos) ≡ 11008) × Floored interval (now m) × Room (now keys) (now places) (now found) × Picking (now ids) (now picks) (now found) ⌝ }
+    ensures { λ r. ⌜ Gathered (now (m .entry)) (addedFrom (lent (now (times .entry)) (now (own .entry))) (now (m .entry)) starts) (limits interval (now (m .entry))) (now (words .exit)) (now (pos .exit)) r ⌝ }
 {
     let mut n = 0;
     let mut walk = Walk::start();
@@ -324,8 +311,7 @@ pub(crate) fn gather(
                     span,
                     count,
                     at,
-                    first,
-                    floor,
+                    interval,
                     words,
                     pos,
                     keys,

@@ -8,8 +8,8 @@ use borrow.Author.Needs.{needs}
 use Rattle.table.specs.Code.{lent}
 use Rattle.walk.specs.Walking.{starts}
 use Rattle.index.proofs.Heaps.{pointing-kept}
-use Rattle.window.specs.Adding.{addedFrom}
-use Rattle.window.specs.Windows.{fromBy}
+use Rattle.walk.specs.Adding.{addedFrom}
+use Rattle.window.specs.Windows.{limits}
 use Rattle.window.proofs.Selecting.{window-made}
 use Rattle.window.proofs.next_window.Statement.{statement}
 use Rattle.window.proofs.next_window.Tie as tie
@@ -17,16 +17,16 @@ use Rattle.window.proofs.next_window.Tie as tie
 -- what was gathered
 module _ (c : tie.After-gather) where
   abbrev words : List ℕ
-  words = c .gather .last .1 .1 .1 .1 .1 .0
+  words = c .gather .last .1 .1 .1 .1 .0
 
   abbrev places : List ℕ
-  places = c .gather .last .1 .1 .1 .1 .1 .1 .0
+  places = c .gather .last .1 .1 .1 .1 .1 .0
 
   wide : length words ≡ 11008
-  wide = c .gather .kept .1 .1 .1 .1 .1 .0 ∙ c .before .before .before .before .before .before .before .before .before .before .before .before .before .before .before .before .before .before .pre .2
+  wide = c .gather .kept .1 .1 .1 .1 .0 ∙ c .before .before .before .before .before .before .before .before .before .before .before .before .before .before .before .before .before .before .pre .2
 
   long : length places ≡ 11008
-  long = c .gather .kept .1 .1 .1 .1 .1 .1 .0 ∙ c .before .before .before .before .before .before .before .before .before .before .before .before .before .before .before .before .before .before .pre .3
+  long = c .gather .kept .1 .1 .1 .1 .1 .0 ∙ c .before .before .before .before .before .before .before .before .before .before .before .before .before .before .before .before .before .before .pre .3
 
   fits : (c .gather .result ≤ length words) × (c .gather .result ≤ length places) × (c .gather .result ≤ 1048576)
   fits = let w = wide in let l = long in let h = c .gather .ensures .few in (omega arith, omega arith, omega arith)
@@ -54,7 +54,7 @@ returns c =
     let g = c .before .before .before .before .before .before .before .before .before .before .before .before .before .before .before .before .before .before .before .before .before .before .before .before .before .before .before .before in
     let s = c .before .before .before .before .before .before .before .before .before .before .before .sort in
     let d = c .before .before .before .before .distinct in (
-      window-made (a .m .now) (addedFrom (lent (a .times .now) (a .own .now)) (a .m .now) starts) (fromBy (a .first) (a .floor) (a .m .now)) (words g) (places g) (g .gather .result)
+      window-made (a .m .now) (addedFrom (lent (a .times .now) (a .own .now)) (a .m .now) starts) (limits (a .interval) (a .m .now)) (words g) (places g) (g .gather .result)
           (g .gather .ensures) (s .last .1 .1 .0) (s .ensures .0) (d .last .1 .1 .0) (d .result) (d .ensures .0),
       d .ensures .1,
     )

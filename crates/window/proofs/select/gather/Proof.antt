@@ -9,16 +9,16 @@ use Rattle.table.specs.Code.{lent}
 use Rattle.table.specs.Table.{Table, items}
 use Rattle.walk.specs.Walking.{starts, Walking}
 use Rattle.index.specs.Lookup.{Room}
-use Rattle.window.specs.Adding.{addedFrom}
-use Rattle.window.specs.Windows.{fromBy, Placed, Picking, Gathering}
-use Rattle.window.proofs.Adding.{own-room, ids-inside, skip-adds, fingerprint-adds}
+use Rattle.walk.specs.Adding.{addedFrom}
+use Rattle.window.specs.Windows.{limits, Placed, Picking, Gathering}
+use Rattle.walk.proofs.Adding.{own-room, ids-inside, skip-adds, fingerprint-adds}
 use Rattle.window.proofs.Selecting.{none-placed, none-gathered, none-left, ids-left, ranges-end, picking-kept}
 use Rattle.index.proofs.Rooms.{room-kept}
 use Rattle.window.proofs.select.gather.Statement.{statement}
 use Rattle.window.proofs.select.gather.Tie as tie
 
 abbrev Inv-loop : tie.InvT-loop
-Inv-loop times own m first floor words₀ pos₀ keys₀ places₀ found₀ ids₀ picks₀ n₀ walk₀ words pos keys places found ids picks n walk =
+Inv-loop times own m interval words₀ pos₀ keys₀ places₀ found₀ ids₀ picks₀ n₀ walk₀ words pos keys places found ids picks n walk =
     Walking (lent times own) m walk
     × (length words ≡ length words₀)
     × (length pos ≡ length pos₀)
@@ -28,10 +28,10 @@ Inv-loop times own m first floor words₀ pos₀ keys₀ places₀ found₀ ids�
     × (length ids ≡ length ids₀)
     × (length picks ≡ length picks₀)
     × Placed m words pos n
-    × Gathering m (addedFrom (lent times own) m starts) (addedFrom (lent times own) m walk) (fromBy first floor m) pos n
+    × Gathering m (addedFrom (lent times own) m starts) (addedFrom (lent times own) m walk) (limits interval m) pos n
 
 abbrev μ-loop : tie.MeasureT-loop
-μ-loop times own m first floor words₀ pos₀ keys₀ places₀ found₀ ids₀ picks₀ n₀ walk₀ words pos keys places found ids picks n walk = length m - walk .cursor .at
+μ-loop times own m interval words₀ pos₀ keys₀ places₀ found₀ ids₀ picks₀ n₀ walk₀ words pos keys places found ids picks n walk = length m - walk .cursor .at
 
 abbrev table : tie.Start Inv-loop μ-loop → Table
 table s = lent (s .args .times .now) (s .args .own .now)
@@ -134,13 +134,13 @@ loop-again-3 c =
     let v = l .inv in
     let call = c .before .before .before .before .before .before .before .before .before .before .before .before .before .before .gather-list in (
       t .ensures .next,
-      call .kept .1 .1 .1 .1 .1 .1 .1 .0 ∙ v .1,
-      call .kept .1 .1 .1 .1 .1 .1 .1 .1 .0 ∙ v .2,
-      call .kept .1 .1 .1 .1 .1 .1 .1 .1 .1 .0 ∙ v .3,
-      call .kept .1 .1 .1 .1 .1 .1 .1 .1 .1 .1 .0 ∙ v .4,
-      call .kept .1 .1 .1 .1 .1 .1 .1 .1 .1 .1 .1 .0 ∙ v .5,
-      call .kept .1 .1 .1 .1 .1 .1 .1 .1 .1 .1 .1 .1 .0 ∙ v .6,
-      call .kept .1 .1 .1 .1 .1 .1 .1 .1 .1 .1 .1 .1 .1 .0 ∙ v .7,
+      call .kept .1 .1 .1 .1 .1 .1 .0 ∙ v .1,
+      call .kept .1 .1 .1 .1 .1 .1 .1 .0 ∙ v .2,
+      call .kept .1 .1 .1 .1 .1 .1 .1 .1 .0 ∙ v .3,
+      call .kept .1 .1 .1 .1 .1 .1 .1 .1 .1 .0 ∙ v .4,
+      call .kept .1 .1 .1 .1 .1 .1 .1 .1 .1 .1 .0 ∙ v .5,
+      call .kept .1 .1 .1 .1 .1 .1 .1 .1 .1 .1 .1 .0 ∙ v .6,
+      call .kept .1 .1 .1 .1 .1 .1 .1 .1 .1 .1 .1 .1 .0 ∙ v .7,
       call .ensures .0,
       call .ensures .1 _ _ (ids-left (table s) (s .args .m .now) (l .walk) _ _ _ _ (v .9) (t .result) (t .ensures) (p .0 .0) (p .0 .1 .0) (p .1)),
     )

@@ -8,7 +8,8 @@ use Rattle.message.specs.Code.{idsIn}
 use Rattle.cutting.specs.declared.Span.{Span}
 use Rattle.index.specs.Lookup.{Room}
 use Rattle.index.proofs.Rooms.{room-kept}
-use Rattle.window.specs.Windows.{fromBy, Placed, others, Picking, Gathering}
+use Rattle.walk.specs.Adding.{others}
+use Rattle.window.specs.Windows.{limits, Placed, Picking, Gathering}
 use Rattle.window.proofs.Selecting.{othersFrom, list-starts, list-ends, picking-kept}
 use Rattle.window.proofs.select.gather_list.Statement.{statement}
 use Rattle.window.proofs.select.gather_list.Tie as tie
@@ -18,7 +19,7 @@ abbrev owns : List ℕ → Span → List (List ℕ)
 owns own span = idsIn (span .hi - span .lo) (drop (span .lo * 32) own)
 
 abbrev Inv-loop : tie.InvT-loop
-Inv-loop own m span count at first floor words₀ pos₀ keys₀ places₀ found₀ ids₀ picks₀ n n₀ i₀ words pos keys places found ids picks n' i =
+Inv-loop own m span count at interval words₀ pos₀ keys₀ places₀ found₀ ids₀ picks₀ n n₀ i₀ words pos keys places found ids picks n' i =
     (i ≤ count)
     × (length words ≡ length words₀)
     × (length pos ≡ length pos₀)
@@ -28,11 +29,11 @@ Inv-loop own m span count at first floor words₀ pos₀ keys₀ places₀ found
     × (length ids ≡ length ids₀)
     × (length picks ≡ length picks₀)
     × Placed m words pos n'
-    × ((all later : List (List ℕ)) → Gathering m all (others own span (idsIn count (drop at m)) ++ later) (fromBy first floor m) pos₀ n
-    → Gathering m all (othersFrom (owns own span) m at count i ++ later) (fromBy first floor m) pos n')
+    × ((all later : List (List ℕ)) → Gathering m all (others own span (idsIn count (drop at m)) ++ later) (limits interval m) pos₀ n
+    → Gathering m all (othersFrom (owns own span) m at count i ++ later) (limits interval m) pos n')
 
 abbrev μ-loop : tie.MeasureT-loop
-μ-loop own m span count at first floor words₀ pos₀ keys₀ places₀ found₀ ids₀ picks₀ n n₀ i₀ words pos keys places found ids picks n' i = count - i
+μ-loop own m span count at interval words₀ pos₀ keys₀ places₀ found₀ ids₀ picks₀ n n₀ i₀ words pos keys places found ids picks n' i = count - i
 
 loop-holds : tie.Need-loop-holds Inv-loop μ-loop
 loop-holds c =
@@ -78,7 +79,7 @@ offer-others-requires c κs =
       v .2 ∙ s .pre .5,
       v .8,
       room (c .before .before .before .before .before .before .before .before .before .before .before .before .before .before .before .before .before),
-      picking-kept (l .ids) (l .picks) (l .found) (p .last .1 .1 .1 .1 .1 .1 .1 .1 .1 .0) (p .last .1 .1 .1 .1 .1 .1 .1 .1 .1 .1 .0) (l .found) (picking (c .before .before .before .before .before .before .before .before .before .before .before .before .before .before .before .before .before)) (p .kept .1 .1 .1 .1 .1 .1 .1 .1 .1 .0) (p .kept .1 .1 .1 .1 .1 .1 .1 .1 .1 .1 .0) refl,
+      picking-kept (l .ids) (l .picks) (l .found) (p .last .1 .1 .1 .1 .1 .1 .1 .1 .0) (p .last .1 .1 .1 .1 .1 .1 .1 .1 .1 .0) (l .found) (picking (c .before .before .before .before .before .before .before .before .before .before .before .before .before .before .before .before .before)) (p .kept .1 .1 .1 .1 .1 .1 .1 .1 .0) (p .kept .1 .1 .1 .1 .1 .1 .1 .1 .1 .0) refl,
     )
 
 loop-less : tie.Need-loop-less Inv-loop μ-loop
@@ -93,13 +94,13 @@ loop-again c =
     let u = c .before .before .before .before .before .before .before .before .before .before .offer-others in
     let o = owns (a .own .now) (a .span) in (
       p .ensures .1,
-      u .kept .1 .1 .1 .1 .1 .1 .1 .1 .0 ∙ v .1,
-      u .kept .1 .1 .1 .1 .1 .1 .1 .1 .1 .0 ∙ v .2,
-      u .kept .1 .1 .1 .1 .1 .1 .1 .1 .1 .1 .0 ∙ v .3,
-      u .kept .1 .1 .1 .1 .1 .1 .1 .1 .1 .1 .1 .0 ∙ v .4,
-      u .kept .1 .1 .1 .1 .1 .1 .1 .1 .1 .1 .1 .1 .0 ∙ v .5,
-      p .kept .1 .1 .1 .1 .1 .1 .1 .1 .1 .0 ∙ v .6,
-      p .kept .1 .1 .1 .1 .1 .1 .1 .1 .1 .1 .0 ∙ v .7,
+      u .kept .1 .1 .1 .1 .1 .1 .1 .0 ∙ v .1,
+      u .kept .1 .1 .1 .1 .1 .1 .1 .1 .0 ∙ v .2,
+      u .kept .1 .1 .1 .1 .1 .1 .1 .1 .1 .0 ∙ v .3,
+      u .kept .1 .1 .1 .1 .1 .1 .1 .1 .1 .1 .0 ∙ v .4,
+      u .kept .1 .1 .1 .1 .1 .1 .1 .1 .1 .1 .1 .0 ∙ v .5,
+      p .kept .1 .1 .1 .1 .1 .1 .1 .1 .0 ∙ v .6,
+      p .kept .1 .1 .1 .1 .1 .1 .1 .1 .1 .0 ∙ v .7,
       u .ensures .0,
       λ all later g. u .ensures .1 all (othersFrom o (a .m .now) (a .at) (a .count) (p .result .next) ++ later) (p .ensures .3 o all later (v .9 all later g)),
     )

@@ -5,22 +5,23 @@ use mathlib.Core.List.{List, _++_}
 use native.Mathlib.Omega.{arith}
 use lib.ListN.{length, getD}
 use native.Mathlib.Nat.{le-refl}
-use Rattle.window.specs.Windows.{fromBy, Placed, without, pickedAt, FoundAt, Gathering}
+use Rattle.walk.specs.Adding.{without}
+use Rattle.window.specs.Windows.{limits, Placed, pickedAt, FoundAt, Gathering}
 use Rattle.window.proofs.Selecting.{picked-step, picked-none}
 use Rattle.window.proofs.select.offer_picked.Statement.{statement}
 use Rattle.window.proofs.select.offer_picked.Tie as tie
 
 abbrev Inv-loop : tie.InvT-loop
-Inv-loop m picks count found first floor words₀ pos₀ n n₀ k₀ words pos n' k =
+Inv-loop m picks count found interval words₀ pos₀ n n₀ k₀ words pos n' k =
     (k ≤ count)
     × (length words ≡ length words₀)
     × (length pos ≡ length pos₀)
     × Placed m words pos n'
-    × ((o all rest : List (List ℕ)) → FoundAt o found m picks count → Gathering m all (without o (pickedAt m picks count) ++ rest) (fromBy first floor m) pos₀ n
-    → Gathering m all (without o (pickedAt m picks k) ++ rest) (fromBy first floor m) pos n')
+    × ((o all rest : List (List ℕ)) → FoundAt o found m picks count → Gathering m all (without o (pickedAt m picks count) ++ rest) (limits interval m) pos₀ n
+    → Gathering m all (without o (pickedAt m picks k) ++ rest) (limits interval m) pos n')
 
 abbrev μ-loop : tie.MeasureT-loop
-μ-loop m picks count found first floor words₀ pos₀ n n₀ k₀ words pos n' k = k
+μ-loop m picks count found interval words₀ pos₀ n n₀ k₀ words pos n' k = k
 
 loop-holds : tie.Need-loop-holds Inv-loop μ-loop
 loop-holds c = let s = c .before .before .before .before .before in (le-refl (s .args .count), refl, refl, s .pre .6, λ o all rest h g. g)
@@ -47,11 +48,11 @@ loop-again c =
     let t = turn (c .before .before .before .before .before .before .before .before .before) in
     let u = c .before .before .before .before .offer-unless in (
       omega arith,
-      u .kept .1 .1 .1 .0 ∙ v .1,
-      u .kept .1 .1 .1 .1 .0 ∙ v .2,
+      u .kept .1 .1 .0 ∙ v .1,
+      u .kept .1 .1 .1 .0 ∙ v .2,
       u .ensures .0,
       λ o all rest h g. u .ensures .1 all (without o (pickedAt (a .m .now) (a .picks .now) (l .k - 1)) ++ rest)
-          (picked-step o (a .m .now) all rest (fromBy (a .first) (a .floor) (a .m .now)) (l .pos) (l .n) (a .picks .now) (l .k) (t .0)
+          (picked-step o (a .m .now) all rest (limits (a .interval) (a .m .now)) (l .pos) (l .n) (a .picks .now) (l .k) (t .0)
           (getD (a .found .now) (l .k - 1) 0) (h (l .k - 1) (omega arith)) (v .4 o all rest h g)),
     )
 

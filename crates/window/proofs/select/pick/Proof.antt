@@ -5,24 +5,25 @@ use mathlib.Core.List.{List, _++_}
 use native.Mathlib.Nat.{le-refl}
 use native.Mathlib.Omega.{arith}
 use lib.ListN.{length}
-use Rattle.window.specs.Windows.{fromBy, without, pickedAt, Picked, Gathering}
+use Rattle.walk.specs.Adding.{without}
+use Rattle.window.specs.Windows.{limits, pickedAt, Picked, Gathering}
 use Rattle.window.proofs.Selecting.{othersFrom, none-picked, picked-none, pick-next}
 use Rattle.window.proofs.select.pick.Statement.{statement}
 use Rattle.window.proofs.select.pick.Tie as tie
 
 abbrev Inv-loop : tie.InvT-loop
-Inv-loop m at start count first floor words pos n ids₀ picks₀ next₀ k₀ ids picks next k =
+Inv-loop m at start count interval words pos n ids₀ picks₀ next₀ k₀ ids picks next k =
     (start ≤ next)
     × (next ≤ count)
     × (start + k ≤ next)
     × (length ids ≡ length ids₀)
     × (length picks ≡ length picks₀)
     × Picked m ids picks k
-    × ((o all rest : List (List ℕ)) → Gathering m all (othersFrom o m at count start ++ rest) (fromBy first floor m) pos n
-    → Gathering m all (without o (pickedAt m picks k) ++ (othersFrom o m at count next ++ rest)) (fromBy first floor m) pos n)
+    × ((o all rest : List (List ℕ)) → Gathering m all (othersFrom o m at count start ++ rest) (limits interval m) pos n
+    → Gathering m all (without o (pickedAt m picks k) ++ (othersFrom o m at count next ++ rest)) (limits interval m) pos n)
 
 abbrev μ-loop : tie.MeasureT-loop
-μ-loop m at start count first floor words pos n ids₀ picks₀ next₀ k₀ ids picks next k = count - next
+μ-loop m at start count interval words pos n ids₀ picks₀ next₀ k₀ ids picks next k = count - next
 
 loop-holds : tie.Need-loop-holds Inv-loop μ-loop
 loop-holds c =
@@ -67,11 +68,11 @@ loop-again c =
       omega (arith, v .0),
       omega arith,
       omega (arith, v .2, u .ensures .0),
-      u .kept .1 .1 .1 .1 .1 .1 .1 .0 ∙ v .3,
-      u .kept .1 .1 .1 .1 .1 .1 .1 .1 .0 ∙ v .4,
+      u .kept .1 .1 .1 .1 .1 .1 .0 ∙ v .3,
+      u .kept .1 .1 .1 .1 .1 .1 .1 .0 ∙ v .4,
       u .ensures .1,
       λ o all rest g. u .ensures .2 o all (othersFrom o (a .m .now) (a .at) (a .count) (l .next + 1) ++ rest)
-          (pick-next o (a .m .now) all rest (fromBy (a .first) (a .floor) (a .m .now)) (a .pos .now) (a .n) (a .at) (a .count) (l .next) (pickedAt (a .m .now) (l .picks) (l .k)) (t .0) (v .6 o all rest g)),
+          (pick-next o (a .m .now) all rest (limits (a .interval) (a .m .now)) (a .pos .now) (a .n) (a .at) (a .count) (l .next) (pickedAt (a .m .now) (l .picks) (l .k)) (t .0) (v .6 o all rest g)),
     )
 
 returns-2 : tie.Need-returns-2 Inv-loop μ-loop

@@ -5,7 +5,7 @@ use lib.ListN.{length, take, drop, length-drop}
 use borrow.Author.Needs.{needs}
 use borrow.Author.Tests.{not-true}
 use Rattle.reader.proofs.Listing.{part-from}
-use Rattle.window.specs.Windows.{fromBy, pickedAt}
+use Rattle.window.specs.Windows.{limits, pickedAt}
 use Rattle.window.proofs.Selecting.{pick-none, picked-more, one-picked}
 use Rattle.window.proofs.select.pick_id.Statement.{statement}
 use Rattle.window.proofs.select.pick_id.Tie as tie
@@ -16,7 +16,7 @@ returns c =
     let a = s .args in (
       omega arith,
       s .pre .7,
-      λ o all rest g. pick-none o (a .m .now) all rest (fromBy (a .first) (a .floor) (a .m .now)) (a .pos .now) (a .n) (a .words .now) (a .p) (pickedAt (a .m .now) (a .picks .now) (a .k)) (s .pre .4)
+      λ o all rest g. pick-none o (a .m .now) all rest (limits (a .interval) (a .m .now)) (a .pos .now) (a .n) (a .words .now) (a .p) (pickedAt (a .m .now) (a .picks .now) (a .k)) (s .pre .4)
           (c .before .wanted .result) (c .before .wanted .ensures) (not-true _ (c .if1 .taken)) g,
     )
 

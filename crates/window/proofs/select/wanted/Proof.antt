@@ -1,61 +1,64 @@
 -- `window::select::wanted` meets its contract.
-use Prim.Native.Nat.{_+_, _≤_}
-use mathlib.Core.Path.{_≡_, _∙_}
+use Prim.Native.Nat.{_+_, _*_}
+use mathlib.Core.Path.{_≡_, sym, _∙_}
 use mathlib.Core.Bool.{true}
-use mathlib.Core.Logic.{⊎-elim}
 use native.Mathlib.Omega.{arith}
-use lib.ListN.{length}
+use lib.Dec.{leb, ltb}
+use lib.ListN.{drop}
 use borrow.Author.Needs.{needs}
 use borrow.Author.Tests.{not-true, not-false, lt-ltb, le-ltb}
+use Rattle.message.specs.Bound.{bigEndian}
+use Rattle.message.proofs.Order.{Small}
 use Rattle.idlist.specs.Positions.{keyAt}
-use Rattle.window.proofs.Selecting.{above, above-first, above-floor}
+use Rattle.window.specs.Windows.{wordSpan, limits}
+use Rattle.window.proofs.Selecting.{word-to, word-below}
 use Rattle.window.proofs.select.wanted.Statement.{statement}
 use Rattle.window.proofs.select.wanted.Tie as tie
 
--- the id at the floor is whole
-floor-whole : (c : tie.Then1) → c .before .before .before .before .before .args .floor + 32 ≤ length (c .before .before .before .before .before .args .m .now)
-floor-whole c = c .before .before .before .before .before .pre .1 (not-true _ (c .if1 .taken))
-
-comes-before-requires : tie.Need-comes-before-requires
-comes-before-requires c κs = (floor-whole (c .before), c .before .before .before .before .before .before .pre .0, c .word2 .ensures, c .before .before .word .ensures)
+small : (c : tie.After-shared-slice-known) → Small (c .before .args .m .now)
+small c k = omega (arith, c .shared-slice-known .given k)
 
 returns : tie.Need-returns
 returns c =
-    let a = c .before .before .before .before .before .before .before .before .args in
-    rw (above-floor (a .m .now) (a .first) (a .floor) (a .p) (c .before .comes-before .result) (not-true _ (c .before .before .before .if1 .taken)) (c .before .comes-before .ensures) ∙ not-true _ (c .if2 .taken))
+    let a = c .before .before .before .before .before .before .args in
+    rw (word-to (a .m .now) (small (c .before .before .before .before .before)) (a .p) (a .interval .last) (rw (← c .before .before .word .ensures) (c .if1 .taken)))
 
--- behind the test of the floor
-passed : (c : tie.Joined1) → let a = c .before .before .before .before .before .args in above (a .m .now) (a .first) (a .floor) (a .p) ≡ true
-passed c =
-    let a = c .before .before .before .before .before .args in
-    ⊎-elim
-    (λ w. above-floor (a .m .now) (a .first) (a .floor) (a .p) (w .2 .result) (not-true _ (w .0 .taken)) (w .2 .ensures) ∙ not-false _ (w .3 .left))
-    (λ w. above-first (a .m .now) (a .first) (a .floor) (a .p) (not-false _ (w .left)))
-    (c .if1 .came)
+-- the word is none behind the interval
+within : (c : tie.Else1) → let a = c .before .before .before .before .before .before .args in ltb (bigEndian 32 (drop (a .p) (a .m .now))) ((a .interval .last + 1) * wordSpan) ≡ true
+within c =
+    let a = c .before .before .before .before .before .before .args in
+    word-below (a .m .now) (small (c .before .before .before .before .before)) (a .p) (a .interval .last) (rw (← c .before .before .word .ensures) (omega (arith, c .if1 .left)))
 
 returns-2 : tie.Need-returns-2
-returns-2 c = rw (passed (c .before), lt-ltb _ _ (c .if3 .taken))
+returns-2 c = rw (within (c .before .before), sym (c .before .reaches .ensures) ∙ not-true _ (c .if2 .taken))
 
-comes-before-requires-2 : tie.Need-comes-before-requires-2
-comes-before-requires-2 c κs =
-    let s = c .before .before .before .before .before .before .before .before in
-    let h = c .before .before .if3 .left in
-    (s .pre .0, s .pre .4 .points 0 (omega arith), c .before .before .before .before .word .ensures, s .pre .4 .worded 0 (omega arith))
+-- nor one before it
+above : (c : tie.Else2) → let a = c .before .before .before .before .before .before .before .before .args in leb (limits (a .interval) (a .m .now) .from) (bigEndian 32 (drop (a .p) (a .m .now))) ≡ true
+above c = sym (c .before .reaches .ensures) ∙ not-false _ (c .if2 .left)
 
 returns-3 : tie.Need-returns-3
+returns-3 c = rw (within (c .before .before .before), above (c .before), lt-ltb _ _ (c .if3 .taken))
+
+comes-before-requires : tie.Need-comes-before-requires
+comes-before-requires c κs =
+    let s = c .before .before .before .before .before .before .before .before .before .before .before in
+    let h = c .before .before .if3 .left in
+    (s .pre .0, s .pre .4 .points 0 (omega arith), c .before .before .before .before .before .before .before .word .ensures, s .pre .4 .worded 0 (omega arith))
+
+returns-4 : tie.Need-returns-4
 unfolding keyAt
-returns-3 c = rw (passed (c .before .before .before .before), le-ltb _ _ (c .before .before .before .if3 .left)) (c .comes-before2 .ensures)
+returns-4 c = rw (within (c .before .before .before .before .before .before), above (c .before .before .before .before), le-ltb _ _ (c .before .before .before .if3 .left)) (c .comes-before .ensures)
 
 pub wanted-spec : {M : Type 1} → statement M
 wanted-spec =
     tie.close
     (tie.spec
     (λ c κs. search needs)
-    (λ c κs. omega (arith, floor-whole c))
-    comes-before-requires
     returns
+    (λ c κs. search needs)
     returns-2
+    returns-3
     (λ c. search needs)
     (λ c. search needs)
-    comes-before-requires-2
-    returns-3)
+    comes-before-requires
+    returns-4)

@@ -1,0 +1,2 @@
+-- For our own crates: the needed list with part of what a reply adds.
+pub mod Counts

@@ -6,13 +6,16 @@ use mathlib.Core.List.{List, [], _∷_}
 use native.Mathlib.Omega.{arith}
 use lib.Dec.{eqb, ltb}
 use lib.ListN.{length, take, drop, getD, drop-of-length-le}
-use lib.Seq.{drop-cons, drop-drop, take-take}
-use borrow.Author.Tests.{eq-eqb, ne-eqb, eqb-true, eqb-false, lt-ltb, le-ltb}
+use lib.Seq.{drop-cons, drop-drop, take-take, length-take-le}
+use borrow.Author.Tests.{ltb-true, ltb-false, eq-eqb, ne-eqb, eqb-true, eqb-false, lt-ltb, le-ltb}
 use Rattle.message.specs.Bound.{bigEndian}
 use Rattle.message.specs.Code.{idsIn}
-use Rattle.message.proofs.Exact.{byTest}
+use Rattle.message.specs.WellFormed.{Sized}
+use Rattle.message.proofs.Exact.{byTest, bytes-take}
+use Rattle.message.proofs.Order.{Small, small-bytes}
 use Rattle.table.proofs.Words.{bigEndian-take}
 use Rattle.ends.specs.Lists.{some, same}
+use Rattle.ends.proofs.Reports.{same-number}
 use Rattle.ends.proofs.Tables.{same-true}
 
 or-true : (b : Bool) → (b || true) ≡ true
@@ -57,6 +60,24 @@ other-word d e h = byTest (same (take 32 d) (take 32 e)) (λ p. absurd (h (sym (
   where
     first-word : (l : List ℕ) → bigEndian 8 (take 32 l) ≡ bigEndian 8 l
     first-word l = sym (bigEndian-take 8 (take 32 l)) ∙ ap (bigEndian 8) (take-take 8 32 l (omega arith)) ∙ bigEndian-take 8 l
+
+-- numbers of which neither is below the other are equal
+pub neither-below : (x y : ℕ) → ltb x y ≡ false → ltb y x ≡ false → true ≡ eqb x y
+neither-below x y e f = sym (eq-eqb x y (omega (arith, ltb-false x y e, ltb-false y x f)))
+
+pub below-other : (x y : ℕ) → ltb x y ≡ true → false ≡ eqb x y
+below-other x y e = sym (ne-eqb x y (λ q. omega (arith, ltb-true x y e)))
+
+pub above-other : (x y : ℕ) → ltb y x ≡ true → false ≡ eqb x y
+above-other x y e = sym (ne-eqb x y (λ q. omega (arith, ltb-true y x e)))
+
+-- ids with the same number are the same
+pub same-by-number : (d e : List ℕ) → Small d → Small e → 32 ≤ length d → 32 ≤ length e → same (take 32 d) (take 32 e) ≡ eqb (bigEndian 32 d) (bigEndian 32 e)
+same-by-number d e sd se ld le =
+    rw (← bigEndian-take 32 d, ← bigEndian-take 32 e) (same-number (take 32 d) (take 32 e) (sized d sd ld) (sized e se le))
+  where
+    sized : (l : List ℕ) → Small l → 32 ≤ length l → Sized 32 (take 32 l)
+    sized l s h = (length-take-le 32 l h, bytes-take 32 l (small-bytes l s) .0)
 
 -- the search from place i on
 abbrev pub left : List ℕ → List ℕ → ℕ → ℕ → Bool

@@ -3,7 +3,7 @@ use table::compare::word;
 ghost use Prim.Native.Nat.{ℕ, _+_, _*_, _≤_, _<_};
 ghost use mathlib.Core.Path.{_≡_};
 ghost use mathlib.Core.Bool.{true, false};
-ghost use lib.Dec.{ltb};
+ghost use lib.Dec.{ltb, eqb};
 ghost use lib.ListN.{length, take, drop};
 ghost use Rattle.message.specs.Bound.{bigEndian};
 ghost use Rattle.message.specs.Code.{idsIn};
@@ -26,6 +26,21 @@ pub fn same_bytes(p: &[u8], q: &[u8]) -> bool
     true
 }
 
+// Whether the ids that begin two slices are the same, compared as four words.
+pub fn same_id(a: &[u8], b: &[u8]) -> bool
+    requires { ⌜ (32 ≤ length (now a)) × (32 ≤ length (now b)) ⌝ }
+    ensures { λ r. ⌜ r ≡ eqb (bigEndian 32 (now (a .entry))) (bigEndian 32 (now (b .entry))) ⌝ }
+{
+    let mut at = 0;
+    while at < 32 {
+        if word(a, at) != word(b, at) {
+            return false;
+        }
+        at += 8;
+    }
+    true
+}
+
 // Whether the id that begins a slice stands at a place of another. Its first eight bytes are compared as one word: most ids differ there.
 fn stands_at(list: &[u8], at: usize, id: &[u8], first: u64) -> bool
     requires { ⌜ (at + 32 ≤ length (now list)) × (32 ≤ length (now id)) × (first ≡ bigEndian 8 (now id)) ⌝ }
@@ -35,7 +50,7 @@ fn stands_at(list: &[u8], at: usize, id: &[u8], first: u64) -> bool
         return false;
     }
     let end = at + 32;
-    same_bytes(&id[..32], &list[at..end])
+    same_id(id, &list[at..end])
 }
 
 // The first of the ids from number `from` up to number `to` of a list that is the id that begins a slice, or `to` where none is. The id's first eight bytes

@@ -1,5 +1,6 @@
 // The ids that a reply adds to the needed list, in windows: the smallest of them from some id on, as many as have room, rising and without repeats. Each
-// window is a walk over the whole reply. The words of the ids, their first eight bytes as numbers, are parted into intervals, and each window has ids of one of them only. For our own crates.
+// window is a walk over the whole reply. The words of the ids, their first eight bytes as numbers, are parted into intervals, and each window has ids of one
+// interval only. For our own crates.
 use crate::select::gather;
 use index::sorting::distinct;
 use index::sorting::sort;

@@ -1,5 +1,5 @@
-// How the listed ids of a reply are spread over the words, the first eight bytes of an id as a number: from it the words are parted into intervals, each with about as many listed
-// ids as a window has room for. The choice need not be right for the count to be: an interval with more ids takes more windows.
+// How the listed ids of a reply are spread over the words, their first eight bytes as numbers. By it the words are parted into intervals, each with about as
+// many listed ids as a window has room for. The choice need not be right for the count to be: an interval with more ids takes more windows.
 use index::buckets::bucket;
 use index::buckets::count_one;
 use index::lookup::smaller;
@@ -93,7 +93,8 @@ fn last_word(low: u64, b: usize, shift: usize) -> u64
     low + (words - 1)
 }
 
-// The last word of an interval that begins at `low`: the largest number of buckets that have room in a window, of 2^54 words each, or of fewer where the first has none.
+// The last word of an interval that begins at `low`: as many buckets as have room in a window, of 2^54 words each, or of fewer words where not even the first
+// has room.
 pub fn interval_end(times: &[u64], own: &[u8], m: &[u8], low: u64, counts: &mut [usize]) -> u64
     requires { ⌜ Passed (lent (now times) (now own)) × Walking (lent (now times) (now own)) (now m) starts ⌝ }
     ensures { λ r. ⌜ low ≤ r ⌝ }

@@ -63,13 +63,13 @@ fn count_listed(times: &[u64], own: &[u8], m: &[u8], low: u64, shift: usize, cou
     }
 }
 
-// How many buckets, from the first on, have together at most 11,008 ids.
+// How many buckets, from the first on, have together fewer than 11,008 ids: a window of them is not full.
 fn leading(counts: &[usize]) -> usize {
     let mut sum = 0;
     let mut b = 0;
     while b < counts.len() {
         let count = counts[b];
-        if 11008 - sum < count {
+        if 11007 - sum < count {
             return b;
         }
         sum += count;

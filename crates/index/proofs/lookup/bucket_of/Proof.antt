@@ -8,8 +8,7 @@ use Rattle.index.proofs.lookup.bucket_of.Tie as tie
 returns-2 : tie.Need-returns-2
 returns-2 c =
     let s = c .before .before .before .before .before .before .before .before in
-    let a = around (s .args .words .now) (s .args .pos .now) (s .args .n) (s .args .first) (c .before .before .before .bucket .result) (s .pre .4) (c .before .before .before .bucket .ensures) (omega (arith, c .before .before .if1 .left)) in
-    (a .ordered, a .within, a .below, a .above)
+    around (s .args .words .now) (s .args .pos .now) (s .args .n) (s .args .first) (c .before .before .before .bucket .result) (s .pre .4) (c .before .before .before .bucket .ensures) (omega (arith, c .before .before .if1 .left))
 
 pub bucket-of-spec : {M : Type 1} → statement M
 bucket-of-spec =

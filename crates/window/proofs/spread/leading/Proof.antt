@@ -1,4 +1,4 @@
--- `window::spread::leading` meets its contract. The invariant: the sum is no more than a window has room for.
+-- `window::spread::leading` meets its contract. The invariant: the sum is less than a window has room for.
 use Prim.Native.Nat.{_-_, _≤_}
 use native.Mathlib.Omega.{arith}
 use lib.ListN.{length}
@@ -6,7 +6,7 @@ use Rattle.window.proofs.spread.leading.Statement.{statement}
 use Rattle.window.proofs.spread.leading.Tie as tie
 
 abbrev Inv-loop : tie.InvT-loop
-Inv-loop counts sum₀ b₀ sum b = sum ≤ 11008
+Inv-loop counts sum₀ b₀ sum b = sum ≤ 11007
 
 abbrev μ-loop : tie.MeasureT-loop
 μ-loop counts sum₀ b₀ sum b = length counts - b

@@ -1,7 +1,7 @@
 -- The smallest ids so far, by their places: one more is offered, and the ids still to come become fewer.
 use Prim.Native.Nat.{ℕ, zero, suc, _+_, _-_, _*_, _≤_, _<_}
 use mathlib.Core.Path.{_≡_, refl, sym, ap, subst, _∙_}
-use mathlib.Core.Bool.{Bool, true, false, cond, _||_, or-assoc, or-comm}
+use mathlib.Core.Bool.{Bool, true, false, cond, not, _||_, or-assoc, or-comm}
 use mathlib.Core.List.{List, [], _∷_, _++_, map}
 use mathlib.Core.Logic.{_⊎_, inl, inr, ⊎-elim}
 use native.Mathlib.Nat.{le-refl, mul-le-mul-right}
@@ -18,6 +18,7 @@ use Rattle.message.specs.declared.Payload.{Payload}
 use Rattle.message.proofs.Exact.{byTest, differ}
 use Rattle.message.proofs.Order.{Small, small-drop, bigEndian-small}
 use Rattle.theory.specs.Table.{has}
+use Rattle.theory.proofs.Tests.{clash}
 use Rattle.theory.proofs.Tables.{has-cases, has-here, has-there}
 use Rattle.reader.specs.Private.{lowerAt}
 use Rattle.reader.proofs.Listing.{part-from}
@@ -34,7 +35,8 @@ use Rattle.walk.specs.Adding.{addedFrom, others}
 use Rattle.index.specs.Lookup.{listed}
 use Rattle.index.specs.Sorting.{Worded, Heap, Rearranged, Distinct}
 use Rattle.index.proofs.Heaps.{by-same, same-key, pointing-kept, keys-kept, keys-from, heap-top}
-use Rattle.window.specs.Windows.{wordSpan, Limits, Within, wants, Held, among, beyond, Placed, Offered, pickedAt, Picked, Picking, FoundAt, Gathering, Gathered, Windowed}
+use Rattle.window.specs.declared.Interval.{Interval}
+use Rattle.window.specs.Windows.{wordSpan, Limits, Within, limits, Floored, Capped, wants, Held, among, beyond, Inside, Placed, Offered, pickedAt, Picked, Picking, FoundAt, Gathering, Gathered, Windowed}
 use Rattle.walk.proofs.Adding.{lacks, list-adds, unowned-span, rangeAdds, added-next, added-ends, listFrom, list-whole, list-none, list-next}
 
 -- the ids as numbers
@@ -70,15 +72,22 @@ module _ (m : List ℕ) (small : Small m) (p : ℕ) where
       let top : suc v * wordSpan ≤ low * wordSpan = mul-le-mul-right wordSpan (let l = leb-false low v e in omega arith) in
       rw e (sym (lt-leb (low * wordSpan) x (omega (arith, word-parts, rest-small)))))
 
-  pub word-to : (last : ℕ) → last < v → ltb x ((last + 1) * wordSpan) ≡ false
-  word-to last h =
-      let top : (last + 1) * wordSpan ≤ v * wordSpan = mul-le-mul-right wordSpan (omega arith) in
-      le-ltb x ((last + 1) * wordSpan) (omega (arith, word-parts))
+  pub word-to : (last : ℕ) → leb v last ≡ ltb x ((last + 1) * wordSpan)
+  word-to last =
+      byTest (leb v last)
+      (λ e.
+      let top : suc v * wordSpan ≤ (last + 1) * wordSpan = mul-le-mul-right wordSpan (let l = leb-true v last e in omega arith) in
+      rw e (sym (lt-ltb x ((last + 1) * wordSpan) (omega (arith, word-parts, rest-small)))))
+      (λ e.
+      let top : (last + 1) * wordSpan ≤ v * wordSpan = mul-le-mul-right wordSpan (let l = leb-false v last e in omega arith) in
+      rw e (sym (le-ltb x ((last + 1) * wordSpan) (omega (arith, word-parts)))))
 
-  pub word-below : (last : ℕ) → v ≤ last → ltb x ((last + 1) * wordSpan) ≡ true
-  word-below last h =
-      let top : suc v * wordSpan ≤ (last + 1) * wordSpan = mul-le-mul-right wordSpan (omega arith) in
-      lt-ltb x ((last + 1) * wordSpan) (omega (arith, word-parts, rest-small))
+-- not above is below the next number
+pub not-above : (c x : ℕ) → not (ltb c x) ≡ ltb x (suc c)
+not-above c x =
+    byTest (ltb c x)
+    (λ e. rw e (sym (le-ltb x (suc c) (let l = ltb-true c x e in omega arith))))
+    (λ e. rw e (sym (lt-ltb x (suc c) (let l = ltb-false c x e in omega arith))))
 
 -- ---- a place joins
 
@@ -247,6 +256,14 @@ module _ (m : List ℕ) (all : List (List ℕ)) (p : ℕ) (later : List (List �
       let here = bigEndian-take 32 (drop p m) in
       let w = wanted-is f (bigEndian 32 id) n (keyAt m pos 0) (rw here (sym t ∙ e)) in
       taken m all id later f pos n g words p words' after r placed here (w .0) (w .1) k
+
+-- a wanted id is within the limits, as those before it
+pub inside-taken : (m : List ℕ) (p : ℕ) (f : Limits) (pos : List ℕ) (n : ℕ) (b : Bool) → b ≡ wants f (bigEndian 32 (drop p m)) n (keyAt m pos 0) → b ≡ true
+    → (words after : List ℕ) (r : ℕ) → Offered m pos n p words after r → Inside f m pos n → Inside f m after r
+unfolding keyAt
+inside-taken m p f pos n b e t words after r o h k l =
+    let w = wanted-is f (bigEndian 32 (drop p m)) n (keyAt m pos 0) (sym t ∙ e) .0 in
+    ⊎-elim (λ q. rw q w) (λ q. rw (← q .2) (h (q .0) (q .1))) (o .from k l)
 
 module _ (own : List (List ℕ)) (m : List ℕ) (at count : ℕ) where
   -- the ids from the i-th on that are no own ones
@@ -423,6 +440,18 @@ module _ (T : Table) (m : List ℕ) (w : Walk) (all : List (List ℕ)) (f : Limi
         from = g .from;
         holds = λ x e l. ⊎-elim (λ k. differ (cc)) (λ k. k) (r .holds x e l);
       }
+
+-- ---- a ceiling
+
+module _ (m : List ℕ) (i : Interval) (h : Floored i m) where
+  -- there is none
+  pub not-capped : i .capped ≡ false → Capped m i i
+  not-capped e = record { floored = h; from = refl; whole = λ t. refl; part = λ t. clash t e }
+
+  -- it is the id at place p
+  pub capped-at : (p : ℕ) → p + 32 ≤ length m → Within (limits i m) (bigEndian 32 (drop p m))
+      → Capped m i (record { low = i .low; last = i .last; first = i .first; floor = i .floor; capped = true; ceiling = p })
+  capped-at p inside within = record { floored = record { floor = h .floor; ceiling = λ t. inside }; from = refl; whole = λ t. clash refl t; part = λ t. within }
 
 -- ---- a window
 

@@ -28,11 +28,22 @@ Within f x = (f .from ≤ x) × (x < f .to)
 
 -- those of the ids that a window may have
 abbrev pub limits : Interval → List ℕ → Limits
-limits i m = record { from = cond (i .first) (i .low * wordSpan) (suc (bigEndian 32 (drop (i .floor) m))); to = (i .last + 1) * wordSpan }
+limits i m = record {
+  from = cond (i .first) (i .low * wordSpan) (suc (bigEndian 32 (drop (i .floor) m)));
+  to = cond (i .capped) (suc (bigEndian 32 (drop (i .ceiling) m))) ((i .last + 1) * wordSpan);
+}
 
--- a whole id stands at place `floor` unless the window is the first
-abbrev pub Floored : Interval → List ℕ → Type 0
-Floored i m = i .first ≡ false → i .floor + 32 ≤ length m
+-- a whole id stands at place `floor` unless the window is the first, and at place `ceiling` where it is capped
+pub record Floored (i : Interval) (m : List ℕ) : Type 0 where
+  pub floor : i .first ≡ false → i .floor + 32 ≤ length m
+  pub ceiling : i .capped ≡ true → i .ceiling + 32 ≤ length m
+
+-- the interval r is i, or the part of i up to one of its ids
+pub record Capped (m : List ℕ) (i r : Interval) : Type 0 where
+  pub floored : Floored r m
+  pub from : limits r m .from ≡ limits i m .from
+  pub whole : r .capped ≡ false → limits r m .to ≡ limits i m .to
+  pub part : r .capped ≡ true → Within (limits i m) (bigEndian 32 (drop (r .ceiling) m))
 
 -- whether the number x belongs to the n smallest within the limits f: there is room, or it is below the largest
 abbrev pub wants : Limits → ℕ → ℕ → ℕ → Bool
@@ -60,6 +71,10 @@ pub record Windowed (m : List ℕ) (all : List (List ℕ)) (f : Limits) (pos : L
   pub rises : KeysRise m pos (w .count)
   pub from : (k : ℕ) → k < w .count → Within f (keyAt m pos k) × (has (keyAt m pos k) (map (bigEndian 32) all) ≡ true)
   pub holds : (x : ℕ) → has x (map (bigEndian 32) all) ≡ true → Within f x → Held m pos (w .count) (keyAt m pos (w .count - 1)) (w .full ≡ true) x
+
+-- the ids at the first n places are within the limits f
+abbrev pub Inside : Limits → List ℕ → List ℕ → ℕ → Type 0
+Inside f m pos n = (k : ℕ) → k < n → Within f (keyAt m pos k)
 
 -- whole ids stand at n places, with their words, in a heap where there is no more room
 pub record Placed (m words pos : List ℕ) (n : ℕ) : Type 0 where

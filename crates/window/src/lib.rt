@@ -14,15 +14,19 @@ ghost use Rattle.walk.specs.Walking.{starts, Walking};
 ghost use Rattle.walk.specs.Adding.{addedFrom};
 ghost use Rattle.window.specs.Windows.{limits, Floored, Picking, Windowed};
 
+pub mod ceiling;
 mod select;
 pub mod spread;
 
-// The ids that a window may have: their words are from `low` to `last`, and they are above the id at place `floor` unless it is the `first` window of the interval.
+// The ids that a window may have: their words are from `low` to `last`, they are above the id at place `floor` unless it is the `first` window of the interval,
+// and, where it is `capped`, no higher than the id at place `ceiling`.
 pub struct Interval {
     pub low: u64,
     pub last: u64,
     pub first: bool,
     pub floor: usize,
+    pub capped: bool,
+    pub ceiling: usize,
 }
 
 // How many ids the window has, and whether there may be more behind it.

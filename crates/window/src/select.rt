@@ -22,7 +22,7 @@ ghost use Rattle.walk.specs.Walking.{starts, Walking};
 ghost use Rattle.idlist.specs.Positions.{keyAt, Pointing};
 ghost use Rattle.index.specs.Lookup.{Room};
 ghost use Rattle.walk.specs.Adding.{addedFrom, without, others};
-ghost use Rattle.window.specs.Windows.{limits, Floored, wants, Placed, Offered, pickedAt, Picked, Picking, FoundAt, Gathering, Gathered};
+ghost use Rattle.window.specs.Windows.{limits, Floored, wants, Inside, Placed, Offered, pickedAt, Picked, Picking, FoundAt, Gathering, Gathered};
 
 // A list is gone through up to id number `next`, and `count` of its ids are picked.
 struct Picks {
@@ -56,13 +56,25 @@ fn reaches(m: &[u8], interval: Interval, p: usize, v: u64) -> bool
     comes_before(m, floor, word(m, floor), p, v)
 }
 
+// Whether the id at place p, whose first eight bytes are v, is not above those of the interval.
+fn stays(m: &[u8], interval: Interval, p: usize, v: u64) -> bool
+    requires { ⌜ (p + 32 ≤ length (now m)) × Floored interval (now m) × (v ≡ bigEndian 8 (drop p (now m))) ⌝ }
+    ensures { λ r. ⌜ r ≡ ltb (bigEndian 32 (drop p (now (m .entry)))) (limits interval (now (m .entry)) .to) ⌝ }
+{
+    if interval.capped {
+        let ceiling = interval.ceiling;
+        return !comes_before(m, ceiling, word(m, ceiling), p, v);
+    }
+    v <= interval.last
+}
+
 // Whether the id at place p belongs to the n smallest so far: it is one of the interval, and there is room or it is below the largest.
 fn wanted(m: &[u8], interval: Interval, words: &[u64], pos: &[usize], n: usize, p: usize) -> bool
     requires { ⌜ (p + 32 ≤ length (now m)) × Floored interval (now m) × (length (now words) ≡ 11008) × (length (now pos) ≡ 11008) × Placed (now m) (now words) (now pos) n ⌝ }
     ensures { λ r. ⌜ r ≡ wants (limits interval (now (m .entry))) (bigEndian 32 (drop p (now (m .entry)))) n (keyAt (now (m .entry)) (now (pos .entry)) 0) ⌝ }
 {
     let v = word(m, p);
-    if interval.last < v {
+    if !stays(m, interval, p, v) {
         return false;
     }
     if !reaches(m, interval, p, v) {
@@ -96,7 +108,7 @@ fn offer(m: &[u8], words: &mut [u64], pos: &mut [usize], n: usize, p: usize) -> 
 }
 
 // Takes the place p in where its id is wanted and `found` is 0; how many places there are then.
-fn offer_unless(
+pub(crate) fn offer_unless(
     m: &[u8],
     interval: Interval,
     words: &mut [u64],
@@ -106,7 +118,7 @@ fn offer_unless(
     found: u8,
 ) -> usize
     requires { ⌜ (p + 32 ≤ length (now m)) × Floored interval (now m) × (length (now words) ≡ 11008) × (length (now pos) ≡ 11008) × Placed (now m) (now words) (now pos) n ⌝ }
-    ensures { λ r. ⌜ Placed (now (m .entry)) (now (words .exit)) (now (pos .exit)) r × ((all rest : List (List ℕ)) → Gathering (now (m .entry)) all (cond (eqb found 0) (take 32 (drop p (now (m .entry))) ∷ rest) rest) (limits interval (now (m .entry))) (now (pos .entry)) n → Gathering (now (m .entry)) all rest (limits interval (now (m .entry))) (now (pos .exit)) r) ⌝ }
+    ensures { λ r. ⌜ Placed (now (m .entry)) (now (words .exit)) (now (pos .exit)) r × ((all rest : List (List ℕ)) → Gathering (now (m .entry)) all (cond (eqb found 0) (take 32 (drop p (now (m .entry))) ∷ rest) rest) (limits interval (now (m .entry))) (now (pos .entry)) n → Gathering (now (m .entry)) all rest (limits interval (now (m .entry))) (now (pos .exit)) r) × (Inside (limits interval (now (m .entry))) (now (m .entry)) (now (pos .entry)) n → Inside (limits interval (now (m .entry))) (now (m .entry)) (now (pos .exit)) r) ⌝ }
 {
     if found != 0 {
         return n;

@@ -1,5 +1,4 @@
 -- `window::select::wanted` meets its contract.
-use Prim.Native.Nat.{_+_, _*_}
 use mathlib.Core.Path.{_≡_, sym, _∙_}
 use mathlib.Core.Bool.{true}
 use native.Mathlib.Omega.{arith}
@@ -8,31 +7,22 @@ use lib.ListN.{drop}
 use borrow.Author.Needs.{needs}
 use borrow.Author.Tests.{not-true, not-false, lt-ltb, le-ltb}
 use Rattle.message.specs.Bound.{bigEndian}
-use Rattle.message.proofs.Order.{Small}
 use Rattle.idlist.specs.Positions.{keyAt}
-use Rattle.window.specs.Windows.{wordSpan, limits}
-use Rattle.window.proofs.Selecting.{word-to, word-below}
+use Rattle.window.specs.Windows.{limits}
 use Rattle.window.proofs.select.wanted.Statement.{statement}
 use Rattle.window.proofs.select.wanted.Tie as tie
 
-small : (c : tie.After-shared-slice-known) → Small (c .before .args .m .now)
-small c k = omega (arith, c .shared-slice-known .given k)
-
 returns : tie.Need-returns
-returns c =
-    let a = c .before .before .before .before .before .before .args in
-    rw (word-to (a .m .now) (small (c .before .before .before .before .before)) (a .p) (a .interval .last) (rw (← c .before .before .word .ensures) (c .if1 .taken)))
+returns c = rw (sym (c .before .stays .ensures) ∙ not-true _ (c .if1 .taken))
 
--- the word is none behind the interval
-within : (c : tie.Else1) → let a = c .before .before .before .before .before .before .args in ltb (bigEndian 32 (drop (a .p) (a .m .now))) ((a .interval .last + 1) * wordSpan) ≡ true
-within c =
-    let a = c .before .before .before .before .before .before .args in
-    word-below (a .m .now) (small (c .before .before .before .before .before)) (a .p) (a .interval .last) (rw (← c .before .before .word .ensures) (omega (arith, c .if1 .left)))
+-- the id is none above the interval
+within : (c : tie.Else1) → let a = c .before .before .before .before .before .before .args in ltb (bigEndian 32 (drop (a .p) (a .m .now))) (limits (a .interval) (a .m .now) .to) ≡ true
+within c = sym (c .before .stays .ensures) ∙ not-false _ (c .if1 .left)
 
 returns-2 : tie.Need-returns-2
 returns-2 c = rw (within (c .before .before), sym (c .before .reaches .ensures) ∙ not-true _ (c .if2 .taken))
 
--- nor one before it
+-- nor one below it
 above : (c : tie.Else2) → let a = c .before .before .before .before .before .before .before .before .args in leb (limits (a .interval) (a .m .now) .from) (bigEndian 32 (drop (a .p) (a .m .now))) ≡ true
 above c = sym (c .before .reaches .ensures) ∙ not-false _ (c .if2 .left)
 
@@ -53,6 +43,7 @@ pub wanted-spec : {M : Type 1} → statement M
 wanted-spec =
     tie.close
     (tie.spec
+    (λ c κs. search needs)
     (λ c κs. search needs)
     returns
     (λ c κs. search needs)

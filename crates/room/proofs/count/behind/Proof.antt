@@ -8,7 +8,7 @@ pub behind-spec : {M : Type 1} → statement M
 behind-spec =
     tie.close
     (tie.spec
-    (λ c. c .before .pre .0 (c .if1 .taken))
+    (λ c. let some = c .before .pre .0 (c .if1 .taken) in omega arith)
     (λ c. omega arith)
     (λ c. let some = c .before .before .pre .0 (c .before .if1 .taken) in let inside = c .before .before .pre .1 in omega arith)
     (λ c. rw (c .before .if1 .taken) (refl, refl))

@@ -3,10 +3,9 @@ use Prim.Native.Nat.{ℕ, _+_, _-_, _*_, _≤_, _<_}
 use mathlib.Core.Path.{_≡_, refl, _∙_}
 use mathlib.Core.List.{List, _++_, foldr}
 use native.Mathlib.Omega.{arith}
-use lib.ListN.{length, take, drop, getD, length-drop}
+use lib.ListN.{length, drop, length-drop}
 use borrow.Author.Needs.{needs}
 use Rattle.message.specs.Code.{idsIn}
-use Rattle.message.proofs.Order.{Small}
 use Rattle.reader.proofs.Listing.{part-from}
 use Rattle.ends.specs.Opener.{insert}
 use Rattle.needed.specs.Batches.{meant, notFound}

@@ -4,7 +4,6 @@ use mathlib.Core.Path.{_≡_, refl, _∙_}
 use mathlib.Core.List.{List, _++_, foldr}
 use native.Mathlib.Omega.{arith}
 use lib.ListN.{length, take, drop, getD}
-use borrow.Author.Needs.{needs}
 use Rattle.ends.specs.Opener.{insert}
 use Rattle.needed.specs.Batches.{meant, unless, notFound}
 use Rattle.needed.proofs.Batching.{Adding, adding-starts, adding-on, adding-ends, adding-room-last, adding-last, not-found-last, not-found-first}

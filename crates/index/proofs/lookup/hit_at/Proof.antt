@@ -56,11 +56,11 @@ slice-write-found c =
 
 returns-2 : tie.Need-returns-2
 returns-2 c =
-    let s = c .before .before .before .before .before .before .before .before .before in
+    let s = c .before .before .before .before .before .before .before .before .before .before in
     let a = s .args in
     let h : a .k < a .n = omega arith in
     let f = few s h in
-    let is : keyAt (a .ids .now) (a .pos .now) (a .k) ≡ bigEndian 32 (a .id .now) = eqb-true _ _ (sym (c .before .before .is-at .ensures) ∙ c .before .if2 .taken) in
+    let is : keyAt (a .ids .now) (a .pos .now) (a .k) ≡ bigEndian 32 (a .id .now) = eqb-true _ _ (sym (c .before .before .before .is-at .ensures) ∙ c .before .before .if2 .taken) in
     rw (place s h) (
       hit-at (a .ids .now) (a .pos .now) (a .n) (bigEndian 32 (a .id .now)) (a .k) (a .found .now) (s .pre .4) (whose s h) (omega arith) h (its s h) is,
       behind-set (a .found .now) (a .found .now) (a .n) (whose s h) 1 f (λ k l. refl),
@@ -78,7 +78,7 @@ hit-at-spec =
     (λ c. search needs)
     (λ c. search needs)
     slice-write-found
-    (λ c. search needs)
+    (λ c κs. let x = c .before .before .before .before .before .before .before .before .before .pre .0 .few in omega arith)
     (λ c. search needs)
     returns-2
     returns-3)

@@ -15,7 +15,7 @@ returns-5 c e =
     let a = s .args in
     let rises = s .pre .1 in
     let above : a .first < getD (a .words .now) (a .hint + 1) 0 = ltb-true _ _ e in
-    let below : getD (a .words .now) (a .hint - 1) 0 < a .first = omega (arith, c .before .if4 .left) in
+    let below : getD (a .words .now) (a .hint - 1) 0 < a .first = omega (arith, c .if4 .left) in
     record {
       ordered = omega arith;
       within = omega arith;
@@ -34,8 +34,8 @@ near-spec =
     (λ c. search needs)
     (λ c. search needs)
     (λ c. search needs)
+    (λ c. search needs)
+    (λ c. search needs)
+    (λ c. search needs)
     (λ c e. clash e refl)
-    (λ c. search needs)
-    (λ c. search needs)
-    (λ c. search needs)
     returns-5)

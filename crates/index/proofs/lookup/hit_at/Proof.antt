@@ -66,8 +66,9 @@ returns-2 c =
       behind-set (a .found .now) (a .found .now) (a .n) (whose s h) 1 f (λ k l. refl),
     )
 
-returns-3 : tie.Need-returns-3
-returns-3 c = (missing (c .before .before .before .before .before .before .before .before) (λ l. eqb-false _ _ (sym (c .before .is-at .ensures) ∙ c .if2 .left)), λ k h. refl)
+-- another id stands there
+other : (c : tie.Else2) → Hit (c .before .before .before .before .before .before .before .before .args .ids .now) (c .before .before .before .before .before .before .before .before .args .pos .now) (c .before .before .before .before .before .before .before .before .args .n) (bigEndian 32 (c .before .before .before .before .before .before .before .before .args .id .now)) (c .before .before .before .before .before .before .before .before .args .found .now) (c .before .before .before .before .before .before .before .before .args .found .now)
+other c = missing (c .before .before .before .before .before .before .before .before) (λ l. eqb-false _ _ (sym (c .before .is-at .ensures) ∙ c .if2 .left))
 
 pub hit-at-spec : {M : Type 1} → statement M
 hit-at-spec =
@@ -81,4 +82,5 @@ hit-at-spec =
     (λ c κs. let x = c .before .before .before .before .before .before .before .before .before .pre .0 .few in omega arith)
     (λ c. search needs)
     returns-2
-    returns-3)
+    (λ c. (other (c .before), λ k h. refl))
+    (λ c. (other (c .before), λ k h. refl)))

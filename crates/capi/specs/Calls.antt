@@ -37,7 +37,7 @@ toldWith r =
       session = record { marked = r .lent .session .marked; needed = r .lent .session .needed; done = r .lent .session .done };
     }
 
--- A bound with a prefix of so many bytes. At infinity a prefix "meets 9", as the time 2^64 - 1 does, which stands in for it.
+-- A bound with a prefix of so many bytes. At infinity a prefix is 9 (SPEC 7.9), as the time 2^64 - 1 is, which stands in for it.
 abbrev pub boundBy : Bool → ℕ → ℕ → Bound
 boundBy true time len = cond (eqb len 0) Bound.Infinity (Bound.At 18446744073709551615 len)
 boundBy false time len = Bound.At time len

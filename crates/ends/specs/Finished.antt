@@ -1,4 +1,4 @@
--- Finished sessions, and "Whoever opens" (02, 9/12): two of them over the same two tables, opened from either end.
+-- SPEC 6.9: finished sessions, and two of them over the same two tables, opened from either end.
 use mathlib.Core.Path.{_≡_}
 use mathlib.Core.Bool.{true}
 use mathlib.Core.List.{List, _++_}
@@ -30,8 +30,8 @@ module _ (A B : Table) (a b : Cut) where
   abbrev pub end : Finished → Place
   end s = run A B a b (opening A a (s .lent)) (s .takes)
 
--- "For the same two tables, no id under two times, any cuts, and no colliding range in either session: what one finished session .. reports as ours only is what
--- the other reports as theirs only, and the reverse, as sets of ids."
+-- SPEC 6.9: "Take two finished sessions over the same two tables, opened from either end, with no id under two times, any cuts, and no colliding range in
+-- either. What one reports as ours only is what the other reports as theirs only, and the reverse, as sets of ids."
 abbrev pub WhoeverOpens : Type 0
 WhoeverOpens =
     (A B : Table) (a b c d : Cut) → Bytes (A .ids) → Bytes (B .ids) → OneTime (items A ++ items B)

@@ -1,5 +1,5 @@
--- What an unrefused opening or take leaves passes check 4 of the take after it: its counts are those of its marks and its needed ids, and "The needed list rises by
--- id without repeats".
+-- SPEC 6.7: what an unrefused opening or take leaves passes check 4 of the take after it: its counts are those of its marks and its needed ids, and "The needed list
+-- rises by id, in the order of 1.2, without repeats" (SPEC 5.4).
 use mathlib.Core.Path.{_≡_}
 use mathlib.Core.Bool.{false}
 use mathlib.Core.List.{List, _++_}

@@ -1,4 +1,4 @@
--- Sessions with replies of any kind (02, 8/12). `Replies` says of a table and two messages that the second may be handed over as the reply of a responder with this
+-- SPEC 6.8: sessions with replies of any kind. `Replies` says of a table and two messages that the second may be handed over as the reply of a responder with this
 -- table to the first.
 use mathlib.Core.Path.{_≡_}
 use mathlib.Core.List.{List, _++_}
@@ -11,7 +11,7 @@ use Rattle.ends.specs.Opener.{Lent, opened, taken}
 use Rattle.ends.specs.Demand.{Take, Place, opening, Reported, OneTime}
 use Rattle.ends.specs.Takes.{Run}
 
--- "What a session reports is as true and complete with any mix" of such replies. "The number of queries is then not promised."
+-- SPEC 6.8: "Reports are as true and complete .. with any mix of replies that are lawful, however they are cut". "The number of queries is then not promised."
 abbrev pub TrueAndComplete : (Table → List ℕ → List ℕ → Type 0) → Type 0
 TrueAndComplete Replies =
     (A B : Table) (a : Cut) → Bytes (A .ids) → Bytes (B .ids) → OneTime (items A ++ items B)

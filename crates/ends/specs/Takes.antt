@@ -10,7 +10,7 @@ use Rattle.ends.specs.Calls.{Result}
 use Rattle.ends.specs.Opener.{Lent}
 use Rattle.ends.specs.Demand.{Take, Place, hands, behindCall, Reported}
 
--- "each handed session, marks and needed list as the call before left them"
+-- SPEC 6.2: "Each take is handed session, marks and needed list as the call before left them."
 abbrev pub lentAt : Place → Take → Lent
 lentAt p t = record { session = p .session; marks = p .marks; needed = p .needed ++ t .behind; out = t .out }
 
@@ -25,15 +25,15 @@ module _ {X : Type 0} (handed : X → Take) (call : X → Lent → Result Lent) 
   next p x = behindCall (called p x) (p .sent) (hands (called p x .answer) (handed x) ++ p .handed)
 
   -- A list of takes after an opening that left the place o, and the place that it leads to. Every beginning of such a list is one too, so that what holds of
-  -- every list holds at every place of each. "An unrefused take is handed an unrefused answer of the responder to a query sent before it; a refused take may
-  -- have been handed any bytes as its reply."
+  -- every list holds at every place of each. SPEC 6.2: "An unrefused take is handed an unrefused answer of the responder to a query sent before it, late or
+  -- repeated and in any order; a refused take may have been handed any bytes as its reply."
   pub data Run (o : Place) : Place → Type 0 where
     none : Run o o
     then-refused : {p : Place} → Run o p → (x : X) (k : ℕ) → called p x .answer ≡ refused k → Run o (next p x)
     then-taken : {p : Place} → Run o p → (x : X) (n : ℕ) → called p x .answer ≡ answer n → List·Memᴰ (handed x .query) (p .sent) → Allowed x → Run o (next p x)
 
-  -- The list ends in n unrefused takes "in a row, each handed the answer to the query last sent". "Refused takes between those in a row don't count and don't end
-  -- the row."
+  -- The list ends in n unrefused takes "in a row, each handed the answer to the query last sent" (SPEC 6.6). SPEC 6.6: "Refused takes between those in a row do
+  -- not count and do not end the row."
   abbrev pub Row : {o p : Place} → ℕ → Run o p → Type 0
   Row zero ρ = Unit {0}
   Row (suc n) none = ⊥
@@ -56,5 +56,6 @@ module _ {X : Type 0} (handed : X → Take) (call : X → Lent → Result Lent) 
     -- What is owed at a place, ρ being the list up to it, A the opener's table and B the responder's.
     pub record Owed (A B : Table) (L : ℕ) {o p : Place} (ρ : Run o p) : Type 0 where
       pub reported : Reported A B p
-      -- "Wherever in the list L + 1 unrefused takes stand in a row, .. the session is done with the last of them at the latest": owed where nothing was cut short
+      -- SPEC 6.6: "Wherever in the list L + 1 unrefused takes stand in a row, .. the session is done with the last of them at the latest": owed where nothing
+      -- was cut short
       pub ends : Whole (suc L) ρ → Row (suc L) ρ → p .session .done ≡ true

@@ -1,4 +1,5 @@
--- "A bound is "infinity", above everything, or a time and a prefix of 0 to 32 bytes; missing id bytes count as 00, so a bound compares as an item does."
+-- SPEC 1.4: "A bound is infinity, which is above everything, or a time and a prefix of 0 to 32 bytes. Missing id bytes count as 00, so a bound compares as an
+-- item does."
 use Prim.Native.Nat.{ℕ, zero, suc, _+_, _-_, _*_, _^_}
 use mathlib.Core.Bool.{Bool, true, false, cond}
 use mathlib.Core.List.{List, [], _∷_, _++_}
@@ -13,12 +14,12 @@ pub data Bound : Type 0 where
 
 -- ---- the order
 
--- "compared byte by byte from the first", n bytes, a missing byte 00
+-- SPEC 1.2: "compared byte by byte from the first", n bytes, a missing byte 00
 unfoldable pub bytesBelow : ℕ → List ℕ → List ℕ → Bool
 bytesBelow zero p q = false
 bytesBelow (suc n) p q = cond (ltb (getD p 0 0) (getD q 0 0)) true (cond (eqb (getD p 0 0) (getD q 0 0)) (bytesBelow n (drop 1 p) (drop 1 q)) false)
 
--- "Items are ordered by time, then by id"
+-- SPEC 1.2: "Items are ordered by time, then by id"
 unfoldable pub below : Bound → Bound → Bool
 below infinity b = false
 below (finite t p) infinity = true
@@ -50,25 +51,25 @@ key b = time b * idSpace + bigEndian 32 (prefix b)
 
 -- ---- reading
 
--- "The lower bound is the preceding upper bound; at first it is time 0 without prefix."
+-- SPEC 3.3: "The lower bound of a range is the upper bound of the one before it; at first it is time 0 without a prefix."
 abbrev pub start : Bound
 start = finite 0 []
 
--- 9: "isn't above its lower bound"
+-- SPEC 7.9: "is not above its lower bound"
 abbrev pub above : Bound → Bound → Reader Bound
 above lower b = do
   judge 9 (ltb (key lower) (key b))
   give b
 
--- "length read and judged, prefix read"; 9: "a prefix length above 32, a prefix at infinity"
+-- SPEC 8.2: "the length is read and judged, the prefix is read"; SPEC 7.9: "a prefix length above 32, a prefix at infinity"
 unfoldable pub readPrefix : ℕ → Reader (List ℕ)
 readPrefix most = do
   n ← readVarint
   judge 9 (leb n most)
   readBytes n
 
--- "Time code 0 is infinity. Code v above 0 means the previous bound's time in this message (0 at first) plus v − 1."
--- 9: "a finite time above 2^64−2 (after infinity any time code above 0 counts as such)"
+-- SPEC 3.4: "Time code 0 is infinity. A code v above 0 is the time of the bound before it in this message (0 at first) plus v - 1." SPEC 7.9: "a finite time
+-- above 2^64 - 2 (after infinity any time code above 0 counts as such)"
 unfoldable pub readCoded : Bound → ℕ → Reader Bound
 readCoded lower zero = do
   readPrefix 0
@@ -78,7 +79,7 @@ readCoded lower (suc v) = do
   p ← readPrefix 32
   above lower (finite (time lower + v) p)
 
--- "A bound is a varint time code, a varint prefix length, and the prefix."
+-- SPEC 3.4: "A bound is spelled as a time code (a varint), the length of its prefix (a varint) and the prefix."
 unfoldable pub readBound : Bound → Reader Bound
 readBound lower = do
   code ← readVarint

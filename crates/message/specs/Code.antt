@@ -9,7 +9,7 @@ use Rattle.message.specs.declared.Bound.{Bound}
 use Rattle.message.specs.declared.Payload.{Payload}
 use Rattle.message.specs.declared.Range.{Range}
 
--- the number that each refusal has under "In checking order"
+-- the number that each refusal has under SPEC 7, "Refusals, in checking order"
 abbrev pub numberOf : Refusal → ℕ
 numberOf Refusal.WrongVersion = 6
 numberOf Refusal.Truncated = 7

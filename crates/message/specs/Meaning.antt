@@ -1,4 +1,4 @@
--- What a message says of each position, and the form in which it is written.
+-- SPEC 3.9: "what it says at each place", and the form in which a message is written.
 use Prim.Native.Nat.{ℕ}
 use mathlib.Core.Bool.{Bool, true, false, cond, _&&_}
 use mathlib.Core.List.{List, [], _∷_}
@@ -6,7 +6,7 @@ use lib.Dec.{ltb}
 use Rattle.message.specs.Bound.{key}
 use Rattle.message.specs.Message.{Payload, skip, fingerprint, ids, Range, range, spellMessage}
 
--- The payload at the key k: that of the first range whose upper bound is above it. "What follows the last bound up to infinity is a skip."
+-- The payload at the key k: that of the first range whose upper bound is above it. SPEC 3.6: "What follows the last bound up to infinity is a skip."
 unfoldable pub payloadAt : List Range → ℕ → Payload
 payloadAt [] k = skip
 payloadAt (range u p ∷ rs) k = cond (ltb k (key u)) p (payloadAt rs k)
@@ -16,7 +16,7 @@ isSkip (range u skip) = true
 isSkip (range u (fingerprint f)) = false
 isSkip (range u (ids l)) = false
 
--- "Neighbouring skips are written as one with the last upper bound; a final skip isn't written."
+-- SPEC 3.8: "Neighbouring skips are written as one with the last of their upper bounds, and a final skip is not written."
 unfoldable pub prepend : Range → List Range → List Range
 prepend r [] = cond (isSkip r) [] (r ∷ [])
 prepend r (s ∷ rs) = cond (isSkip r && isSkip s) (s ∷ rs) (r ∷ s ∷ rs)

@@ -1,4 +1,4 @@
--- "A message is the byte 61, then ranges. A range is its upper bound, its mode (varint) and its payload."
+-- SPEC 3.2: "A message is the byte 61 and then ranges. A range is its upper bound, its mode (a varint) and its payload."
 use Prim.Native.Nat.{ℕ, zero, suc}
 use mathlib.Core.Bool.{cond}
 use mathlib.Core.List.{List, [], _∷_, _++_, flatten}
@@ -21,7 +21,7 @@ upper (range u p) = u
 
 -- ---- reading
 
--- "32 bytes for each"
+-- SPEC 3.5: "32 bytes for each"
 unfoldable pub readIds : ℕ → Reader (List (List ℕ))
 readIds zero = give []
 readIds (suc n) = do
@@ -29,7 +29,8 @@ readIds (suc n) = do
   l ← readIds n
   give (i ∷ l)
 
--- "Mode 0, skip: no payload. Mode 1, fingerprint: 16 bytes. Mode 2, ids: a varint count, then 32 bytes for each." 10: "A mode is above 2."
+-- SPEC 3.5: "Mode 0 is a skip and has no payload. Mode 1 is a fingerprint: 16 bytes. Mode 2 is a list of ids: their count (a varint), then 32 bytes for each."
+-- SPEC 7.10: "a mode is above 2"
 unfoldable pub readOfMode : ℕ → Reader Payload
 readOfMode zero = give skip
 readOfMode (suc zero) = do
@@ -65,7 +66,7 @@ readRanges (suc f) lower = untilEnd (do
   rs ← readRanges f (upper r)
   give (r ∷ rs))
 
--- 6: "The message is empty or its first byte isn't 61."
+-- SPEC 7.6: "the message is empty, or its first byte is not 61"
 unfoldable pub readMessage : Reader (List Range)
 readMessage [] = refused 6
 readMessage (b ∷ m) = cond (eqb b 0x61) (readRanges (length m) start m) (refused 6)

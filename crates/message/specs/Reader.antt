@@ -1,5 +1,5 @@
--- A reading takes the bytes that are left, and gives a value with the bytes left behind it, or the number of a refusal.
--- "The first fault met counts": one reading after another is refused by the first that is.
+-- A reading takes the bytes that are left, and gives a value with the bytes left behind it, or the number of a refusal. SPEC 8.2: "the first fault met counts":
+-- one reading after another is refused by the first that is.
 use Prim.Native.Nat.{ℕ}
 use mathlib.Core.Bool.{Bool, cond}
 use mathlib.Core.List.{List}
@@ -30,6 +30,6 @@ give a = λ m. read a m
 abbrev pub judge : ℕ → Bool → Reader (Unit {0})
 judge k test = λ m. cond test (read tt m) (refused k)
 
--- 7: "The message ends inside a range."
+-- SPEC 7.7: "the message ends inside a range"
 unfoldable pub readBytes : ℕ → Reader (List ℕ)
 readBytes n = λ m. cond (leb n (length m)) (read (take n m) (drop n m)) (refused 7)

@@ -1,16 +1,17 @@
--- "A varint is written in base 128, most significant digit first, as few digits as possible, bit 7 set on every byte but the last, values 0 to 2^64−1."
+-- SPEC 3.1: "A varint is a number from 0 to 2^64 - 1 in base 128, most significant digit first, with as few digits as possible, and with bit 7 set on every
+-- byte but the last."
 use Prim.Native.Nat.{ℕ, zero, suc, _+_, _*_, _/_, _%_, _^_}
 use mathlib.Core.Bool.{cond}
 use mathlib.Core.List.{List, [], _∷_}
 use lib.Dec.{ltb, eqb}
 use Rattle.message.specs.Reader.{read, refused, Reader}
 
--- The digits that follow, v being read so far. 8: "passes 2^64−1", "at the byte that takes the value read so far past 2^64−1".
+-- The digits that follow, v being read so far. SPEC 7.8: "passes 2^64 - 1", SPEC 8.2: "at the byte that takes the value read so far past 2^64 - 1".
 unfoldable pub readDigits : ℕ → Reader ℕ
 readDigits v [] = refused 7
 readDigits v (b ∷ m) = let w = v * 128 + b % 128 in cond (ltb w (2 ^ 64)) (cond (ltb b 128) (read w m) (readDigits w m)) (refused 8)
 
--- 8: "A varint starts with 80", "failing at its first byte if that is 80".
+-- SPEC 7.8: "a varint starts with 80", SPEC 8.2: "A varint fails at its first byte if that is 80".
 unfoldable pub readVarint : Reader ℕ
 readVarint [] = refused 7
 readVarint (b ∷ m) = cond (eqb b 0x80) (refused 8) (readDigits 0 (b ∷ m))

@@ -1,4 +1,4 @@
--- The ranges that a message can carry: refusal 9 does not meet their bounds, and their parts have the sizes that the format gives them.
+-- SPEC 3.9: the ranges that a message can carry: refusal 9 does not meet their bounds, and their parts have the sizes that the format gives them.
 use Prim.Native.Nat.{ℕ, _-_, _^_, _<_, _≤_}
 use mathlib.Core.Path.{_≡_}
 use mathlib.Core.List.{List, [], _∷_}

@@ -1,4 +1,4 @@
--- What the reader's answers say in the words of the format's definitions, and the places that they give. A place is a number of bytes
+-- SPEC 3.10: what the reader's answers say in the words of the format's definitions, and the places that they give. A place is a number of bytes
 -- from the start of the message, and the bytes from there on are what is left to be read.
 use Prim.Native.Nat.{ℕ, _+_, _-_, _*_, _≤_}
 use mathlib.Core.Path.{_≡_}

@@ -1,4 +1,4 @@
--- Stepping a cursor from the start through a message that `check_message` has passed gives exactly its ranges: `Stepping`, the theorem
+-- SPEC 3.10: stepping a cursor from the start through a message that `check_message` has passed gives exactly its ranges: `Stepping`, the theorem
 -- `stepping` in proofs/Stepping.antt.
 use Prim.Native.Nat.{ℕ, _≤_, _<_}
 use mathlib.Core.Path.{_≡_}

@@ -1,4 +1,4 @@
--- SHA-256 of a list of bytes, as FIPS 180-4 has it: its names, in its order, the section beside each.
+-- SPEC 2.5: SHA-256 of a list of bytes, as FIPS 180-4 has it: its names, in its order, the section of the standard beside each.
 -- A word is a number below 2 ^ 32. Byte strings are written most significant byte first throughout (3.1). Assumes nothing.
 use Prim.Native.Nat.{ℕ, zero, suc, _+_, _-_, _*_, _/_, _%_, _^_}
 use mathlib.Core.List.{List, [], _∷_, _++_}

@@ -6,7 +6,7 @@ use Rattle.table.specs.Table.{Table}
 use Rattle.table.specs.declared.Refusal.{Refusal}
 use Rattle.table.specs.declared.Checked.{Checked}
 
--- the number that each refusal has under "In checking order"
+-- the number that each refusal has under SPEC 7, "Refusals, in checking order"
 abbrev pub numberOf : Refusal → ℕ
 numberOf Refusal.TableSize = 1
 numberOf Refusal.TableOrder = 2

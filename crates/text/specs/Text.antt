@@ -1,4 +1,4 @@
--- The text of a message, as the program `showmsg` prints it. Text is a list of ASCII codes.
+-- SPEC 10, "The program showmsg": the text of a message, as the program prints it. Text is a list of ASCII codes.
 use Prim.Native.Nat.{ℕ, zero, suc, _+_, _/_, _%_, _≤_}
 use mathlib.Core.Bool.{cond}
 use mathlib.Core.List.{List, [], _∷_, _++_, map, flatten}
@@ -18,7 +18,7 @@ newline = 0x0A
 abbrev pub dash : ℕ
 dash = 0x2D
 
--- "more: the line `too long`"
+-- SPEC 10.1: "More give the line `too long`"
 unfoldable pub tooLong : List ℕ
 tooLong = 0x74 ∷ 0x6F ∷ 0x6F ∷ space ∷ 0x6C ∷ 0x6F ∷ 0x6E ∷ 0x67 ∷ newline ∷ []
 
@@ -35,42 +35,42 @@ decimalUpTo (suc f) n = cond (ltb n 10) (digit n ∷ []) (decimalUpTo f (n / 10)
 unfoldable pub decimal : ℕ → List ℕ
 decimal = decimalUpTo 20
 
--- "in lower-case hex"
+-- SPEC 10.2: "in lower-case hex"
 unfoldable pub hex : List ℕ → List ℕ
 hex [] = []
 hex (b ∷ s) = digit (b / 16) ∷ digit (b % 16) ∷ hex s
 
--- "upper time or `inf`"
+-- SPEC 10.2: "the upper time or `inf`"
 unfoldable pub timeField : Bound → List ℕ
 timeField infinity = 0x69 ∷ 0x6E ∷ 0x66 ∷ []
 timeField (finite t p) = decimal t
 
--- "prefix in lower-case hex or `-`"
+-- SPEC 10.2: "the prefix in lower-case hex or `-`"
 unfoldable pub prefixField : List ℕ → List ℕ
 prefixField [] = dash ∷ []
 prefixField (b ∷ p) = hex (b ∷ p)
 
--- "`skip`, `fingerprint` or `ids`"
+-- SPEC 10.2: "`skip`, `fingerprint` or `ids`"
 abbrev pub modeField : Payload → List ℕ
 modeField skip = 0x73 ∷ 0x6B ∷ 0x69 ∷ 0x70 ∷ []
 modeField (fingerprint f) = 0x66 ∷ 0x69 ∷ 0x6E ∷ 0x67 ∷ 0x65 ∷ 0x72 ∷ 0x70 ∷ 0x72 ∷ 0x69 ∷ 0x6E ∷ 0x74 ∷ []
 modeField (ids l) = 0x69 ∷ 0x64 ∷ 0x73 ∷ []
 
--- "then `-`, 32 hex digits or the count"
+-- SPEC 10.2: "then `-`, 32 hex digits or the count"
 unfoldable pub payloadField : Payload → List ℕ
 payloadField skip = dash ∷ []
 payloadField (fingerprint f) = hex f
 payloadField (ids l) = decimal (length l)
 
--- "with one space between fields"
+-- SPEC 10.2: "with one space between fields"
 unfoldable pub line : Range → List ℕ
 line (range u p) = timeField u ++ (space ∷ (prefixField (prefix u) ++ (space ∷ (modeField p ++ (space ∷ (payloadField p ++ (newline ∷ [])))))))
 
--- "A refusal prints only the line `refused`, one space and its number."
+-- SPEC 10.3: "A refusal prints only the line `refused`, one space and its number."
 unfoldable pub refusalLine : ℕ → List ℕ
 refusalLine n = 0x72 ∷ 0x65 ∷ 0x66 ∷ 0x75 ∷ 0x73 ∷ 0x65 ∷ 0x64 ∷ space ∷ (decimal n ++ (newline ∷ []))
 
--- "It prints a line for each written range"
+-- SPEC 10.2: "It prints a line for each written range"
 unfoldable pub lines : List Range → List ℕ
 lines rs = flatten (map line rs)
 
@@ -79,7 +79,7 @@ abbrev pub printed : Outcome (List Range) → List ℕ
 printed (read rs rest) = lines rs
 printed (refused k) = refusalLine k
 
--- All that is printed for these bytes. "The program `showmsg` reads a message of at most 65,536 bytes": `too long` comes before any refusal.
+-- All that is printed for these bytes. SPEC 10.1: "The program reads a message of at most 65,536 bytes": `too long` comes before any refusal.
 unfoldable pub shown : List ℕ → List ℕ
 shown m = cond (ltb 65536 (length m)) tooLong (printed (readMessage m))
 

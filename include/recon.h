@@ -3,8 +3,8 @@
    A table is n times and n ids of 32 bytes each, in the same order, strictly rising by time and then by id (byte by byte from the first),
    with times below 2^64 - 1 and n at most 1,048,576. A cut is its parts (2 to 64) and its list limit (parts to 4,096).
 
-   Link with librecon.a, which `make install` puts beside this file (pkg-config knows both as `recon`), or with the file it is a copy of,
-   target/staticlib/libcapi.a, which `rt staticlib capi` writes. examples/session.c is a complete program; recon(3) is the manual page.
+   Link with librecon.a, which `make install` installs together with this file (for pkg-config both are `recon`), or with the file that it is a
+   copy of, target/staticlib/libcapi.a. examples/session.c is a complete program, recon(3) the manual page.
 
    Every call answers for any values. A refused call answers with the number of its refusal, below, and changes nothing. Look at the refusal
    before the session: only an answer without one says that the session went on. On 11 (RECON_NEEDED_FULL) and 12 (RECON_NO_ROOM) too

@@ -1,13 +1,19 @@
-/* The library's calls for C. Link with target/staticlib/libcapi.a, which `rt staticlib capi` writes.
+/* recon's calls for C: range-based set reconciliation with the messages of the Negentropy Protocol V1.
 
-   Range-based set reconciliation with the messages of the Negentropy Protocol V1. A table is n times and n ids of 32 bytes each, in the
-   same order, strictly rising by time and then by id (byte by byte from the first), with times below 2^64 - 1 and n at most 1,048,576.
-   A cut is its parts (2 to 64) and its list limit (parts to 4,096).
+   A table is n times and n ids of 32 bytes each, in the same order, strictly rising by time and then by id (byte by byte from the first),
+   with times below 2^64 - 1 and n at most 1,048,576. A cut is its parts (2 to 64) and its list limit (parts to 4,096).
+
+   Link with librecon.a, which `make install` installs together with this file (for pkg-config both are `recon`), or with the file that it is a
+   copy of, target/staticlib/libcapi.a. examples/session.c is a complete program, recon(3) the manual page.
 
    Every call answers for any values. A refused call answers with the number of its refusal, below, and changes nothing. Look at the refusal
-   before the session: only an answer without one says that the session went on. What a caller owes
-   is what C asks anyway: a pointer points to as many elements as its length says, none of the bytes that a call may write overlap any
-   other that it is handed, and, as in Rust, no pointer is null, not even where its length is 0. A take keeps less than 512 KiB on the stack. */
+   before the session: only an answer without one says that the session went on. On 11 (RECON_NEEDED_FULL) and 12 (RECON_NO_ROOM) too
+   nothing has changed: grow the buffer and call again.
+
+   What a caller owes:
+   - a pointer points to as many elements as its length says; where the length is 0 it is not looked at, and may be null;
+   - none of the bytes that a call may write overlap any other that it is handed;
+   - there is stack: a take keeps less than 512 KiB on it. */
 #ifndef RECON_H
 #define RECON_H
 
@@ -19,64 +25,114 @@
 extern "C" {
 #endif
 
-/* The refusals, in the order in which they are checked. */
-enum {
-    RECON_OK = 0,
-    RECON_TABLE_SIZE = 1,    /* the id bytes are not 32 for each time, or there are more than 1,048,576 items */
-    RECON_TABLE_ORDER = 2,   /* an item is not above its predecessor, or a time is 2^64 - 1 */
-    RECON_CUT_LIMITS = 3,    /* the parts or the list limit of the cut are outside their limits */
-    RECON_WRONG_STATE = 4,   /* marks, needed buffer and session do not fit the table or each other */
-    RECON_SESSION_DONE = 5,  /* the session is done */
-    RECON_WRONG_VERSION = 6, /* the message is empty, or its first byte is not 61 */
-    RECON_TRUNCATED = 7,     /* the message ends inside a range */
-    RECON_BAD_VARINT = 8,    /* a varint starts with 80 or passes 2^64 - 1 */
-    RECON_BAD_BOUND = 9,     /* a bound has a time or a prefix that it cannot have, or is not above the one before it */
-    RECON_BAD_MODE = 10,     /* a mode is above 2 */
-    RECON_NEEDED_FULL = 11,  /* the needed list that would result has more ids than its buffer holds */
-    RECON_NO_ROOM = 12       /* the message to be written is longer than the out buffer */
-};
+#define RECON_VERSION "0.1.0"
+#define RECON_VERSION_MAJOR 0
+#define RECON_VERSION_MINOR 1
+#define RECON_VERSION_PATCH 0
 
-/* The opener's session: how many marks are 1, how many ids stand on the needed list, and whether it is done. */
+/* Sizes in bytes. */
+#define RECON_ID_BYTES 32
+#define RECON_FINGERPRINT_BYTES 16
+#define RECON_DIGEST_BYTES 32
+
+/* The most items of a table, the limits of a cut (the list limit is at least the parts), and a cut for those who have no reason for another. */
+#define RECON_MAX_ITEMS 1048576
+#define RECON_MIN_PARTS 2
+#define RECON_MAX_PARTS 64
+#define RECON_MAX_LIMIT 4096
+#define RECON_DEFAULT_PARTS 16
+#define RECON_DEFAULT_LIMIT 64
+
+/* The bytes that an opening can need at most: with a given cut, and with any. It lists up to `limit` ids, or has a fingerprint for each part. */
+#define RECON_OPENING_BYTES(parts, limit) \
+    (6 + 32 * (limit) > 60 * (parts) - 40 ? 6 + 32 * (limit) : 60 * (parts) - 40)
+#define RECON_MAX_OPENING_BYTES 131078
+
+/* The refusals, in the order in which they are checked: name, number, and what recon_strerror says of it. Of a message: its first byte
+   is 0x61 (6), no varint starts with 0x80 (8), and no mode is above 2 (10). */
+#define RECON_REFUSALS(REFUSAL) \
+    REFUSAL(RECON_TABLE_SIZE, 1, "the id bytes are not 32 for each time, or there are more than 1,048,576 items") \
+    REFUSAL(RECON_TABLE_ORDER, 2, "the items do not rise strictly by time and id, or a time is 2^64 - 1") \
+    REFUSAL(RECON_CUT_LIMITS, 3, "the cut is outside its limits: parts 2 to 64, list limit from the parts to 4,096") \
+    REFUSAL(RECON_WRONG_STATE, 4, "marks, needed buffer and session do not fit the table or each other") \
+    REFUSAL(RECON_SESSION_DONE, 5, "the session is done") \
+    REFUSAL(RECON_WRONG_VERSION, 6, "the message is empty or of another protocol version") \
+    REFUSAL(RECON_TRUNCATED, 7, "the message ends inside a range") \
+    REFUSAL(RECON_BAD_VARINT, 8, "a number in the message has a leading zero or passes 2^64 - 1") \
+    REFUSAL(RECON_BAD_BOUND, 9, "a bound has a time or a prefix that it cannot have, or is not above the one before it") \
+    REFUSAL(RECON_BAD_MODE, 10, "a range of the message has an unknown mode") \
+    REFUSAL(RECON_NEEDED_FULL, 11, "the needed buffer is too small for the ids that are lacking") \
+    REFUSAL(RECON_NO_ROOM, 12, "the out buffer is too small for the message")
+
+#define RECON_ENUMERATOR(name, number, text) name = number,
+enum { RECON_REFUSALS(RECON_ENUMERATOR) RECON_OK = 0 };
+#undef RECON_ENUMERATOR
+
+/* What a refusal means, in English; "no refusal" for 0, "unknown refusal" for a number that is none. Never to be freed. */
+#define RECON_CASE(name, number, text) \
+    case number: \
+        return text;
+static inline const char *recon_strerror(uint64_t number) {
+    switch (number) {
+        RECON_REFUSALS(RECON_CASE)
+    case RECON_OK:
+        return "no refusal";
+    default:
+        return "unknown refusal";
+    }
+}
+#undef RECON_CASE
+
+/* The opener's session. It goes with the marks and the needed list as the last call left them. */
 typedef struct {
-    size_t marked;
-    size_t needed;
-    bool done;
+    size_t marked; /* how many items have the mark 1 */
+    size_t needed; /* how many ids stand on the needed list: its bytes are 32 times as many */
+    bool done;     /* whether all is reported */
 } recon_session;
 
-/* The number of the refusal, or 0 and the length of the message that was written. */
+/* What a responder's call answers. */
 typedef struct {
-    uint64_t refusal;
-    size_t length;
+    uint64_t refusal; /* the number of the refusal, 0 for none */
+    size_t length;    /* the bytes of the message that was written; 0 where the call is refused */
 } recon_answer_t;
 
-/* The same, and the session afterwards. */
+/* What an opener's call answers: the same, and the session afterwards. */
 typedef struct {
     uint64_t refusal;
     size_t length;
     recon_session session;
 } recon_session_answer;
 
+/* The lengths in the calls below:
+     times_len    elements: how many times, one for each item
+     ids_len      bytes: 32 for each item
+     marks_len    bytes: one for each item
+     needed_len   bytes: of whole ids, so a multiple of 32
+   and all others (out_len, query_len, reply_len, lower_prefix_len, upper_prefix_len, m_len) bytes. */
+
 /* Opens a session: writes the first query at the start of out and sets the marks, one byte for each item, to 0. The needed buffer, of whole
    ids, is only looked at: the list in it is empty now. Bytes of out behind the message stay.
-   Refuses by 1 to 4 and 12; the session is then { 0, 0, false }: nothing is reported, and it is not done. */
+   Refuses by 1 to 4 and 12; the session is then { 0, 0, false }: nothing is reported, and it is not done. On 12 nothing has changed: grow
+   out and call again; RECON_OPENING_BYTES(parts, limit) bytes are always enough. */
 recon_session_answer recon_open(const uint64_t *times, size_t times_len, const uint8_t *ids, size_t ids_len, size_t parts, size_t limit,
                                 uint8_t *marks, size_t marks_len, const uint8_t *needed, size_t needed_len, uint8_t *out, size_t out_len);
 
 /* The responder's answer to a query, written at the start of out; bytes of out behind the message stay.
-   Refuses by 1 to 3, 6 to 10 and 12. */
+   Refuses by 1 to 3, 6 to 10 and 12. On 12 nothing has changed: grow out and call again. */
 recon_answer_t recon_answer(const uint64_t *times, size_t times_len, const uint8_t *ids, size_t ids_len, size_t parts, size_t limit,
                             const uint8_t *query, size_t query_len, uint8_t *out, size_t out_len);
 
 /* The opener takes a reply. The mark 1 is set on each own item that the other end lacks, ids that the opener lacks join to the needed list at
    the start of its buffer (rising, without repeats), and the next query is written at the start of out. If it would say nothing, the
    session is done, and nothing is written (length 0). Bytes behind the list and behind the message stay.
-   Refuses by 1 to 12; the session is then the one that was handed over. */
+   Refuses by 1 to 12; the session is then the one that was handed over. On 11 and 12 nothing has changed: grow the buffer (needed, with the
+   list in it kept, on 11; out on 12) and call again. */
 recon_session_answer recon_take(const uint64_t *times, size_t times_len, const uint8_t *ids, size_t ids_len, size_t parts, size_t limit,
                                 const uint8_t *reply, size_t reply_len, recon_session session, uint8_t *marks, size_t marks_len,
                                 uint8_t *needed, size_t needed_len, uint8_t *out, size_t out_len);
 
 /* The fingerprint of the items at or above a lower bound and below an upper one, into the 16 bytes at out. A bound is infinite, or a time and
-   a prefix of an id; missing id bytes count as 00. Where the lower bound is not below the upper one, the fingerprint of no items.
+   a prefix of an id (0 to 32 bytes); missing id bytes count as 00. Where the lower bound is not below the upper one, the fingerprint of no items.
    Answers 0, or refuses by 1, 2 or 9 (a time 2^64 - 1, a prefix longer than 32, a prefix at infinity), and then out stays. */
 uint64_t recon_fingerprint(const uint64_t *times, size_t times_len, const uint8_t *ids, size_t ids_len, bool lower_infinite,
                            uint64_t lower_time, const uint8_t *lower_prefix, size_t lower_prefix_len, bool upper_infinite,
@@ -84,6 +140,68 @@ uint64_t recon_fingerprint(const uint64_t *times, size_t times_len, const uint8_
 
 /* SHA-256 (FIPS 180-4) of the m_len bytes at m, into the 32 bytes at out. Never refuses. */
 void recon_sha256(const uint8_t *m, size_t m_len, uint8_t out[32]);
+
+/* Null pointers with length 0. The library's functions are proved for slices, whose pointers are not null even where they are empty. So each call
+   above is also a macro that leads to an inline function, which hands over a pointer to some object where a length is 0. Arguments are evaluated
+   once. `(recon_open)(..)` and `&recon_open` are the library's function itself, which wants pointers that are not null. */
+static inline const uint64_t *recon_nonnull_times(const uint64_t *times, size_t len) {
+    static const uint64_t none = 0;
+    return len == 0 ? &none : times;
+}
+
+static inline const uint8_t *recon_nonnull_bytes(const uint8_t *bytes, size_t len) {
+    static const uint8_t none = 0;
+    return len == 0 ? &none : bytes;
+}
+
+/* Bytes that a call may write. */
+static inline uint8_t *recon_nonnull_room(uint8_t *room, size_t len) {
+    static uint8_t none = 0;
+    return len == 0 ? &none : room;
+}
+
+/* A slice's pointer and length, out of the parameters p and p_len. */
+#define RECON_TIMES(p) recon_nonnull_times(p, p##_len), p##_len
+#define RECON_BYTES(p) recon_nonnull_bytes(p, p##_len), p##_len
+#define RECON_ROOM(p) recon_nonnull_room(p, p##_len), p##_len
+
+static inline recon_session_answer recon_open_inline(const uint64_t *times, size_t times_len, const uint8_t *ids, size_t ids_len, size_t parts,
+                                                     size_t limit, uint8_t *marks, size_t marks_len, const uint8_t *needed, size_t needed_len,
+                                                     uint8_t *out, size_t out_len) {
+    return recon_open(RECON_TIMES(times), RECON_BYTES(ids), parts, limit, RECON_ROOM(marks), RECON_BYTES(needed), RECON_ROOM(out));
+}
+#define recon_open(...) recon_open_inline(__VA_ARGS__)
+
+static inline recon_answer_t recon_answer_inline(const uint64_t *times, size_t times_len, const uint8_t *ids, size_t ids_len, size_t parts,
+                                                 size_t limit, const uint8_t *query, size_t query_len, uint8_t *out, size_t out_len) {
+    return recon_answer(RECON_TIMES(times), RECON_BYTES(ids), parts, limit, RECON_BYTES(query), RECON_ROOM(out));
+}
+#define recon_answer(...) recon_answer_inline(__VA_ARGS__)
+
+static inline recon_session_answer recon_take_inline(const uint64_t *times, size_t times_len, const uint8_t *ids, size_t ids_len, size_t parts,
+                                                     size_t limit, const uint8_t *reply, size_t reply_len, recon_session session,
+                                                     uint8_t *marks, size_t marks_len, uint8_t *needed, size_t needed_len, uint8_t *out,
+                                                     size_t out_len) {
+    return recon_take(RECON_TIMES(times), RECON_BYTES(ids), parts, limit, RECON_BYTES(reply), session, RECON_ROOM(marks), RECON_ROOM(needed),
+                      RECON_ROOM(out));
+}
+#define recon_take(...) recon_take_inline(__VA_ARGS__)
+
+static inline uint64_t recon_fingerprint_inline(const uint64_t *times, size_t times_len, const uint8_t *ids, size_t ids_len,
+                                                bool lower_infinite, uint64_t lower_time, const uint8_t *lower_prefix,
+                                                size_t lower_prefix_len, bool upper_infinite, uint64_t upper_time,
+                                                const uint8_t *upper_prefix, size_t upper_prefix_len, uint8_t out[16]) {
+    return recon_fingerprint(RECON_TIMES(times), RECON_BYTES(ids), lower_infinite, lower_time, RECON_BYTES(lower_prefix), upper_infinite,
+                             upper_time, RECON_BYTES(upper_prefix), out);
+}
+#define recon_fingerprint(...) recon_fingerprint_inline(__VA_ARGS__)
+
+static inline void recon_sha256_inline(const uint8_t *m, size_t m_len, uint8_t out[32]) { recon_sha256(RECON_BYTES(m), out); }
+#define recon_sha256(...) recon_sha256_inline(__VA_ARGS__)
+
+#undef RECON_TIMES
+#undef RECON_BYTES
+#undef RECON_ROOM
 
 #ifdef __cplusplus
 }

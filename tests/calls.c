@@ -106,11 +106,115 @@ static void fingerprints(void) {
     expect("the items below time 7", recon_fingerprint(times, 3, ids, 96, false, 0, nothing, 0, false, 7, nothing, 0, out) == RECON_OK && begins(out, 17, first, 16));
 }
 
+/* Every refusal has a number of its own, from 1 on, and a text of its own. */
+static void refusal_texts(void) {
+#define ROW(name, number, text) {name, number, text},
+    static const struct {
+        int name, number;
+        const char *text;
+    } rows[] = {RECON_REFUSALS(ROW)};
+#undef ROW
+    const size_t count = sizeof rows / sizeof rows[0];
+    for (size_t i = 0; i < count; i++) {
+        expect("refusals are numbered from 1 on", rows[i].name == (int)i + 1 && rows[i].number == (int)i + 1);
+        expect("a refusal has its text", strcmp(recon_strerror(i + 1), rows[i].text) == 0 && strlen(rows[i].text) > 10);
+        for (size_t k = 0; k < i; k++)
+            expect("two refusals have two texts", strcmp(rows[i].text, rows[k].text) != 0);
+    }
+    expect("0 is no refusal", RECON_OK == 0 && strcmp(recon_strerror(RECON_OK), "no refusal") == 0);
+    expect("a number behind the last is unknown", strcmp(recon_strerror(count + 1), "unknown refusal") == 0);
+    expect("a number of more than 32 bits is unknown", strcmp(recon_strerror(0x100000001u), "unknown refusal") == 0);
+    expect("the largest number is unknown", strcmp(recon_strerror(UINT64_MAX), "unknown refusal") == 0);
+}
+
+/* The refusal of an answer about a table of n items, with so many bytes of ids, or by this cut. */
+static uint64_t by_size(const uint64_t *t, size_t n, const uint8_t *i, size_t id_bytes) {
+    uint8_t out[16];
+    return recon_fingerprint(t, n, i, id_bytes, true, 0, nothing, 0, true, 0, nothing, 0, out);
+}
+
+static uint64_t by_cut(size_t parts, size_t limit) {
+    const uint8_t query[1] = {0x61};
+    uint8_t out[16];
+    return recon_answer(times, 3, ids, 96, parts, limit, query, 1, out, 16).refusal;
+}
+
+/* The constants are the limits that the library has. */
+static void limits(void) {
+    const size_t most = RECON_MAX_ITEMS;
+    uint64_t *t = malloc((most + 1) * sizeof *t);
+    uint8_t *i = calloc(most + 1, RECON_ID_BYTES), digest[RECON_DIGEST_BYTES + 1], fingerprint[RECON_FINGERPRINT_BYTES + 1];
+    if (t == NULL || i == NULL)
+        exit(2);
+    for (size_t k = 0; k <= most; k++)
+        t[k] = k;
+    expect("the most items", by_size(t, most, i, most * RECON_ID_BYTES) == RECON_OK);
+    expect("one item more", by_size(t, most + 1, i, (most + 1) * RECON_ID_BYTES) == RECON_TABLE_SIZE);
+    expect("the bytes of an id", by_size(t, 1, i, RECON_ID_BYTES) == RECON_OK && by_size(t, 1, i, RECON_ID_BYTES + 1) == RECON_TABLE_SIZE);
+    free(t);
+    free(i);
+    expect("the fewest parts", by_cut(RECON_MIN_PARTS, RECON_MIN_PARTS) == RECON_OK && by_cut(RECON_MIN_PARTS - 1, 64) == RECON_CUT_LIMITS);
+    expect("the most parts", by_cut(RECON_MAX_PARTS, RECON_MAX_PARTS) == RECON_OK && by_cut(RECON_MAX_PARTS + 1, 65) == RECON_CUT_LIMITS);
+    expect("the largest list limit", by_cut(2, RECON_MAX_LIMIT) == RECON_OK && by_cut(2, RECON_MAX_LIMIT + 1) == RECON_CUT_LIMITS);
+    expect("the default cut", by_cut(RECON_DEFAULT_PARTS, RECON_DEFAULT_LIMIT) == RECON_OK);
+    memset(digest, OLD, sizeof digest);
+    memset(fingerprint, OLD, sizeof fingerprint);
+    recon_sha256(nothing, 0, digest);
+    expect("the bytes of a digest", digest[RECON_DIGEST_BYTES] == OLD && digest[RECON_DIGEST_BYTES - 1] == 0x55);
+    expect("a fingerprint of no items", recon_fingerprint(times, 3, ids, 96, true, 0, nothing, 0, true, 0, nothing, 0, fingerprint) == RECON_OK);
+    expect("the bytes of a fingerprint", fingerprint[RECON_FINGERPRINT_BYTES] == OLD && fingerprint[RECON_FINGERPRINT_BYTES - 1] == 0xbc);
+}
+
+/* Opens with just so many bytes, and with one less: whether the first is enough and the second is not. */
+static int opens_with(const uint64_t *t, const uint8_t *i, size_t n, size_t parts, size_t limit, size_t bytes) {
+    static uint8_t marks[RECON_MAX_LIMIT], out[RECON_MAX_OPENING_BYTES];
+    recon_session_answer short_of = recon_open(t, n, i, n * RECON_ID_BYTES, parts, limit, marks, n, nothing, 0, out, bytes - 1);
+    recon_session_answer opened = recon_open(t, n, i, n * RECON_ID_BYTES, parts, limit, marks, n, nothing, 0, out, bytes);
+    return short_of.refusal == RECON_NO_ROOM && opened.refusal == RECON_OK && opened.length == bytes;
+}
+
+/* A table of two items for each part, all of whose bounds have 32 bytes of prefix, and as many of the time as all together can have. Of two
+   differences below 2^64 - 1 both can take 10 bytes, of more only one, and the others 9. */
+static size_t longest_bounds(uint64_t *t, uint8_t *i, size_t parts) {
+    memset(i, 0, 2 * parts * RECON_ID_BYTES);
+    for (size_t k = 0; k < 2 * parts; k++) {
+        uint64_t bound = (k + 1) / 2;
+        t[k] = bound == 0 ? 0 : INT64_MAX + (bound - 1) * (parts == 3 ? INT64_MAX : (uint64_t)1 << 56);
+        if (parts == 3 && k == 5)
+            t[k] = t[4];
+        i[k * RECON_ID_BYTES + 31] = (uint8_t)k;
+    }
+    return parts < 4 ? 60 * parts - 40 : 80 + 59 * (parts - 2);
+}
+
+/* What an opening can need at most. */
+static void openings(void) {
+    static uint64_t t[RECON_MAX_LIMIT];
+    static uint8_t i[RECON_MAX_LIMIT * RECON_ID_BYTES];
+    size_t most = 0;
+    for (size_t parts = RECON_MIN_PARTS; parts <= RECON_MAX_PARTS; parts++) {
+        size_t bytes = longest_bounds(t, i, parts);
+        expect("the longest bounds", opens_with(t, i, 2 * parts, parts, parts, bytes) && bytes <= RECON_OPENING_BYTES(parts, parts));
+        expect("reached by 2 and 3 parts", parts > 3 || bytes == RECON_OPENING_BYTES(parts, parts));
+        for (size_t limit = parts; limit <= RECON_MAX_LIMIT; limit++)
+            if (RECON_OPENING_BYTES(parts, limit) > most)
+                most = RECON_OPENING_BYTES(parts, limit);
+    }
+    for (size_t k = 0; k < RECON_MAX_LIMIT; k++)
+        t[k] = k;
+    expect("the longest list of 128 ids", opens_with(t, i, 128, 2, 128, RECON_OPENING_BYTES(2, 128)));
+    expect("the longest list", opens_with(t, i, RECON_MAX_LIMIT, 2, RECON_MAX_LIMIT, RECON_MAX_OPENING_BYTES));
+    expect("no cut needs more", most == RECON_MAX_OPENING_BYTES);
+}
+
 int main(void) {
     empty_tables();
     two_ranges();
     reports();
     fingerprints();
+    refusal_texts();
+    limits();
+    openings();
     printf("calls: %lu facts as expected\n", looked_at);
     return 0;
 }

@@ -1,0 +1,166 @@
+/* What the macros of include/recon.h hand to the library. Functions of the library's names stand here in its place and write down what they
+   are handed: every argument as it was given, evaluated once, and a slice of length 0 with an address that is not null. C and C++; not to be
+   linked with the library. Exits 1 at the first difference. */
+#include <stdio.h>
+#include <stdlib.h>
+#include <string.h>
+
+#include "recon.h"
+
+enum { MOST = 16 };
+
+/* What came over, in order: slices with their lengths, and numbers. */
+static struct {
+    const void *at;
+    uint64_t value;
+} handed[MOST];
+static size_t count;
+
+static void slice(const void *at, size_t len) {
+    handed[count].at = at;
+    handed[count++].value = len;
+}
+
+static void number(uint64_t value) {
+    handed[count].at = NULL;
+    handed[count++].value = value;
+}
+
+static void table(const uint64_t *times, size_t times_len, const uint8_t *ids, size_t ids_len) {
+    slice(times, times_len);
+    slice(ids, ids_len);
+}
+
+recon_session_answer(recon_open)(const uint64_t *times, size_t times_len, const uint8_t *ids, size_t ids_len, size_t parts, size_t limit,
+                                 uint8_t *marks, size_t marks_len, const uint8_t *needed, size_t needed_len, uint8_t *out, size_t out_len) {
+    const recon_session_answer answer = {12, 34, {56, 78, true}};
+    table(times, times_len, ids, ids_len);
+    number(parts), number(limit);
+    slice(marks, marks_len), slice(needed, needed_len), slice(out, out_len);
+    return answer;
+}
+
+recon_answer_t(recon_answer)(const uint64_t *times, size_t times_len, const uint8_t *ids, size_t ids_len, size_t parts, size_t limit,
+                             const uint8_t *query, size_t query_len, uint8_t *out, size_t out_len) {
+    const recon_answer_t answer = {12, 34};
+    table(times, times_len, ids, ids_len);
+    number(parts), number(limit);
+    slice(query, query_len), slice(out, out_len);
+    return answer;
+}
+
+recon_session_answer(recon_take)(const uint64_t *times, size_t times_len, const uint8_t *ids, size_t ids_len, size_t parts, size_t limit,
+                                 const uint8_t *reply, size_t reply_len, recon_session session, uint8_t *marks, size_t marks_len,
+                                 uint8_t *needed, size_t needed_len, uint8_t *out, size_t out_len) {
+    const recon_session_answer answer = {12, 34, {56, 78, true}};
+    table(times, times_len, ids, ids_len);
+    number(parts), number(limit);
+    slice(reply, reply_len);
+    number(session.marked), number(session.needed), number(session.done);
+    slice(marks, marks_len), slice(needed, needed_len), slice(out, out_len);
+    return answer;
+}
+
+uint64_t(recon_fingerprint)(const uint64_t *times, size_t times_len, const uint8_t *ids, size_t ids_len, bool lower_infinite,
+                            uint64_t lower_time, const uint8_t *lower_prefix, size_t lower_prefix_len, bool upper_infinite,
+                            uint64_t upper_time, const uint8_t *upper_prefix, size_t upper_prefix_len, uint8_t out[16]) {
+    table(times, times_len, ids, ids_len);
+    number(lower_infinite), number(lower_time);
+    slice(lower_prefix, lower_prefix_len);
+    number(upper_infinite), number(upper_time);
+    slice(upper_prefix, upper_prefix_len);
+    slice(out, 16);
+    return 12;
+}
+
+void(recon_sha256)(const uint8_t *m, size_t m_len, uint8_t out[32]) {
+    slice(m, m_len);
+    slice(out, 32);
+}
+
+/* The arguments to be given. Slice k, counted from 0, has the length 100 + k, or is null with length 0 if bit k of `nulls` is set. */
+static unsigned nulls, lengths_evaluated, numbers_evaluated;
+static uint64_t words[MOST];
+static uint8_t bytes[32];
+
+static const uint64_t *words_at(size_t k) { return nulls >> k & 1 ? NULL : words + k; }
+
+static uint8_t *bytes_at(size_t k) { return nulls >> k & 1 ? NULL : bytes + k; }
+
+static size_t length_at(size_t k) { return nulls >> k & 1 ? 0 : 100 + k; }
+
+static size_t length(size_t k) {
+    lengths_evaluated++;
+    return length_at(k);
+}
+
+static size_t evaluated(size_t value) {
+    numbers_evaluated++;
+    return value;
+}
+
+#define TIMES(k) words_at(k), length(k)
+#define BYTES(k) bytes_at(k), length(k)
+
+static int is_slice(size_t i, size_t k, int of_words) {
+    if (handed[i].value != length_at(k))
+        return 0;
+    if (nulls >> k & 1)
+        return handed[i].at != NULL && (!of_words || (uintptr_t)handed[i].at % sizeof(uint64_t) == 0);
+    return handed[i].at == (of_words ? (const void *)words_at(k) : (const void *)bytes_at(k));
+}
+
+/* Whether what came over is of this form: T times, B bytes (slices counted together), a digit that number, and O the fixed-size out. */
+static int has_form(const char *form) {
+    size_t i = 0, k = 0;
+    for (; form[i] != 0; i++) {
+        if (form[i] == 'T' || form[i] == 'B') {
+            if (!is_slice(i, k++, form[i] == 'T'))
+                return 0;
+        } else if (form[i] == 'O') {
+            if (handed[i].at != bytes)
+                return 0;
+        } else if (handed[i].at != NULL || handed[i].value != (uint64_t)(form[i] - '0')) {
+            return 0;
+        }
+    }
+    return count == i && lengths_evaluated == k;
+}
+
+static unsigned long compared;
+
+static void expect(const char *call, const char *form, unsigned numbers, int answered) {
+    compared++;
+    if (!has_form(form) || numbers_evaluated != numbers || !answered) {
+        printf("handed: %s with the null pointers %#x: an argument or the answer does not come over as it was given\n", call, nulls);
+        exit(1);
+    }
+    count = lengths_evaluated = numbers_evaluated = 0;
+}
+
+static int is_answer(recon_session_answer a) {
+    return a.refusal == 12 && a.length == 34 && a.session.marked == 56 && a.session.needed == 78 && a.session.done;
+}
+
+static void all_calls(void) {
+    const recon_session session = {4, 5, true};
+    recon_session_answer opened = recon_open(TIMES(0), BYTES(1), evaluated(2), evaluated(3), BYTES(2), BYTES(3), BYTES(4));
+    expect("recon_open", "TB23BBB", 2, is_answer(opened));
+    recon_answer_t answer = recon_answer(TIMES(0), BYTES(1), evaluated(2), evaluated(3), BYTES(2), BYTES(3));
+    expect("recon_answer", "TB23BB", 2, answer.refusal == 12 && answer.length == 34);
+    recon_session_answer taken = recon_take(TIMES(0), BYTES(1), evaluated(2), evaluated(3), BYTES(2), session, BYTES(3), BYTES(4), BYTES(5));
+    expect("recon_take", "TB23B451BBB", 2, is_answer(taken));
+    uint64_t lower = recon_fingerprint(TIMES(0), BYTES(1), false, evaluated(3), BYTES(2), true, evaluated(5), BYTES(3), bytes);
+    expect("recon_fingerprint", "TB03B15BO", 2, lower == 12);
+    uint64_t upper = recon_fingerprint(TIMES(0), BYTES(1), true, evaluated(3), BYTES(2), false, evaluated(5), BYTES(3), bytes);
+    expect("recon_fingerprint", "TB13B05BO", 2, upper == 12);
+    recon_sha256(BYTES(0), bytes);
+    expect("recon_sha256", "BO", 0, 1);
+}
+
+int main(void) {
+    for (nulls = 0; nulls < 64; nulls++)
+        all_calls();
+    printf("handed: %lu calls hand over what they are given, and no null pointer\n", compared);
+    return 0;
+}

@@ -1,0 +1,108 @@
+/* Every slice of every call null with length 0, alone and together with any others: the call answers as for empty slices at an address, and
+   leaves every lent byte alike. C and C++. Exits 1 at the first difference. */
+#include <stdio.h>
+#include <stdlib.h>
+#include <string.h>
+
+#include "recon.h"
+
+/* Which slices are empty, as a set. */
+enum { TIMES = 1, IDS = 2, OUT = 4, MESSAGE = 8, MARKS = 16, NEEDED = 32, LOWER = 8, UPPER = 16 };
+
+/* A slice as two arguments: null and 0, or what is given. */
+#define NULL_OR(which, p, n) (empty & (which) ? NULL : (p)), (empty & (which) ? 0 : (n))
+/* The same slice, with an address in either case. */
+#define SOME_OR(which, p, n) (p), (empty & (which) ? 0 : (n))
+
+/* All that a call is lent. */
+typedef struct {
+    uint64_t times[2];
+    uint8_t ids[64], message[5], marks[2], needed[64], out[128], prefix[1];
+} lent;
+
+static unsigned long compared, unrefused;
+
+static void expect(const char *call, unsigned empty, int holds) {
+    compared++;
+    if (!holds) {
+        printf("null: %s with the empty slices %#x: null pointers make a difference\n", call, empty);
+        exit(1);
+    }
+}
+
+static lent fresh(void) {
+    const uint8_t no_ids[5] = {0x61, 0, 0, 2, 0};
+    lent l;
+    memset(&l, 0, sizeof l);
+    l.times[0] = 5;
+    l.times[1] = 7;
+    memcpy(l.message, no_ids, 5);
+    memset(l.out, 0xa5, sizeof l.out);
+    return l;
+}
+
+static int alike(recon_session_answer a, recon_session_answer b) {
+    unrefused += a.refusal == RECON_OK;
+    return a.refusal == b.refusal && a.length == b.length && a.session.marked == b.session.marked && a.session.needed == b.session.needed &&
+           a.session.done == b.session.done;
+}
+
+static void opened(unsigned empty) {
+    lent a = fresh(), b = fresh();
+    recon_session_answer x = recon_open(NULL_OR(TIMES, a.times, 2), NULL_OR(IDS, a.ids, 64), 2, 2, NULL_OR(MARKS, a.marks, 2),
+                                        NULL_OR(NEEDED, a.needed, 64), NULL_OR(OUT, a.out, 128));
+    recon_session_answer y = (recon_open)(SOME_OR(TIMES, b.times, 2), SOME_OR(IDS, b.ids, 64), 2, 2, SOME_OR(MARKS, b.marks, 2),
+                                          SOME_OR(NEEDED, b.needed, 64), SOME_OR(OUT, b.out, 128));
+    expect("recon_open", empty, alike(x, y) && memcmp(&a, &b, sizeof a) == 0);
+}
+
+static void answered(unsigned empty) {
+    lent a = fresh(), b = fresh();
+    recon_answer_t x = recon_answer(NULL_OR(TIMES, a.times, 2), NULL_OR(IDS, a.ids, 64), 2, 2, NULL_OR(MESSAGE, a.message, 5),
+                                    NULL_OR(OUT, a.out, 128));
+    recon_answer_t y = (recon_answer)(SOME_OR(TIMES, b.times, 2), SOME_OR(IDS, b.ids, 64), 2, 2, SOME_OR(MESSAGE, b.message, 5),
+                                      SOME_OR(OUT, b.out, 128));
+    unrefused += x.refusal == RECON_OK;
+    expect("recon_answer", empty, x.refusal == y.refusal && x.length == y.length && memcmp(&a, &b, sizeof a) == 0);
+}
+
+static void taken(unsigned empty) {
+    const recon_session session = {0, 0, false};
+    lent a = fresh(), b = fresh();
+    recon_session_answer x = recon_take(NULL_OR(TIMES, a.times, 2), NULL_OR(IDS, a.ids, 64), 2, 2, NULL_OR(MESSAGE, a.message, 5), session,
+                                        NULL_OR(MARKS, a.marks, 2), NULL_OR(NEEDED, a.needed, 64), NULL_OR(OUT, a.out, 128));
+    recon_session_answer y = (recon_take)(SOME_OR(TIMES, b.times, 2), SOME_OR(IDS, b.ids, 64), 2, 2, SOME_OR(MESSAGE, b.message, 5), session,
+                                          SOME_OR(MARKS, b.marks, 2), SOME_OR(NEEDED, b.needed, 64), SOME_OR(OUT, b.out, 128));
+    expect("recon_take", empty, alike(x, y) && memcmp(&a, &b, sizeof a) == 0);
+    if (empty == (TIMES | IDS | MARKS | NEEDED | OUT))
+        expect("recon_take of all but a message", empty, x.refusal == RECON_OK && x.session.done);
+}
+
+static void fingerprinted(unsigned empty) {
+    lent a = fresh(), b = fresh();
+    uint64_t x = recon_fingerprint(NULL_OR(TIMES, a.times, 2), NULL_OR(IDS, a.ids, 64), false, 0, NULL_OR(LOWER, a.prefix, 1), false, 9,
+                                   NULL_OR(UPPER, a.prefix, 1), a.out);
+    uint64_t y = (recon_fingerprint)(SOME_OR(TIMES, b.times, 2), SOME_OR(IDS, b.ids, 64), false, 0, SOME_OR(LOWER, b.prefix, 1), false, 9,
+                                     SOME_OR(UPPER, b.prefix, 1), b.out);
+    unrefused += x == RECON_OK;
+    expect("recon_fingerprint", empty, x == y && memcmp(&a, &b, sizeof a) == 0);
+}
+
+static void digested(unsigned empty) {
+    lent a = fresh(), b = fresh();
+    recon_sha256(NULL_OR(TIMES, a.message, 5), a.out);
+    (recon_sha256)(SOME_OR(TIMES, b.message, 5), b.out);
+    expect("recon_sha256", empty, memcmp(&a, &b, sizeof a) == 0);
+}
+
+int main(void) {
+    for (unsigned empty = 0; empty < 64; empty++) {
+        opened(empty);
+        answered(empty);
+        taken(empty);
+        fingerprinted(empty);
+        digested(empty);
+    }
+    printf("null: %lu calls with and without null pointers alike, %lu of those that can be refused were not\n", compared, unrefused);
+    return unrefused > 0 ? 0 : 1;
+}

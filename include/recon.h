@@ -45,7 +45,7 @@ extern "C" {
 
 /* The bytes that an opening can need at most: with a given cut, and with any. It lists up to `limit` ids, or has a fingerprint for each part. */
 #define RECON_OPENING_BYTES(parts, limit) \
-    (6 + 32 * (limit) > 60 * (parts) - 40 ? 6 + 32 * (limit) : 60 * (parts) - 40)
+    (6 + 32 * (limit) > 1 + 60 * (parts) ? 6 + 32 * (limit) : 1 + 60 * (parts))
 #define RECON_MAX_OPENING_BYTES 131078
 
 /* The refusals, in the order in which they are checked: name, number, and what recon_strerror says of it. Of a message: its first byte

@@ -195,7 +195,6 @@ static void openings(void) {
     for (size_t parts = RECON_MIN_PARTS; parts <= RECON_MAX_PARTS; parts++) {
         size_t bytes = longest_bounds(t, i, parts);
         expect("the longest bounds", opens_with(t, i, 2 * parts, parts, parts, bytes) && bytes <= RECON_OPENING_BYTES(parts, parts));
-        expect("reached by 2 and 3 parts", parts > 3 || bytes == RECON_OPENING_BYTES(parts, parts));
         for (size_t limit = parts; limit <= RECON_MAX_LIMIT; limit++)
             if (RECON_OPENING_BYTES(parts, limit) > most)
                 most = RECON_OPENING_BYTES(parts, limit);

@@ -139,6 +139,13 @@ class Words:
             else:
                 self.take()
 
+    def attributes(self):
+        """Past Rust's attributes, none of which may set a condition."""
+        while self.accept("#"):
+            if self.peek(1) == "cfg":
+                self.fail("a declaration for every compiler")
+            self.skip_group()
+
     def listed(self, closing, read):
         """What `read` reads, between commas, up to the closing bracket."""
         items = []
@@ -231,8 +238,7 @@ def rust_signature(words, constants, start):
 def rust_struct(words, constants, start):
     """A struct behind `#[repr`."""
     words.expect("(", "C", ")", "]")
-    while words.accept("#"):
-        words.skip_group()
+    words.attributes()
     if words.accept("pub") and words.peek() == "(":
         words.skip_group()
     words.expect("struct")
@@ -286,8 +292,7 @@ def read_rust(path, text, whole):
 
 def rust_block(words, constants, whole):
     while not words.accept("}"):
-        while words.accept("#"):
-            words.skip_group()
+        words.attributes()
         start = words.start()
         words.accept("pub")
         words.expect("fn")

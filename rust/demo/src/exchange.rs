@@ -86,10 +86,10 @@ mod tests {
         assert_eq!(session(&[], &[]), Exchanged { queries, replies });
         let (queries, replies) = (traffic(1, 5 + 2 * 32), traffic(1, 5 + 32));
         assert_eq!(session(&[1, 2], &[2]), Exchanged { queries, replies });
-        let (all, odd): (Vec<u64>, Vec<u64>) = ((0..2000).collect(), (1..2000).step_by(2).collect());
+        let (all, odd): (Vec<u64>, Vec<u64>) = ((0..4000).collect(), (1..4000).step_by(2).collect());
         let exchanged = session(&all, &odd);
         assert_eq!((exchanged.queries.messages, exchanged.replies.messages), (2, 2));
-        assert!(exchanged.queries.bytes > 32 * 1000);
+        assert!(exchanged.queries.bytes > 32 * 4000 && exchanged.replies.bytes > 32 * 2000);
     }
 
     #[test]

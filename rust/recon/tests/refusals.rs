@@ -16,28 +16,17 @@ fn header_name(kind: Refusal) -> String {
     name
 }
 
-fn without_comments(text: &str) -> String {
-    let behind_comment = |part: &str| {
-        part.split_once("*/")
-            .map_or(String::new(), |(_, rest)| rest.to_string())
-    };
-    let mut parts = text.split("/*");
-    let first = parts.next().unwrap_or_default().to_string();
-    parts.fold(first, |text, part| text + &behind_comment(part))
-}
-
-/// The names and numbers of the header's list, which starts with RECON_OK.
+/// The names and numbers of the header's list: a name, `=` or a comma, and a number.
 fn header_list() -> Vec<(String, u64)> {
-    let header = without_comments(HEADER);
-    let (_, list) = header.split_once("RECON_OK = 0,").expect("the list of the refusals");
-    let (list, _) = list.split_once('}').expect("the end of the list");
-    let entries = list.split(',').filter(|entry| !entry.trim().is_empty());
-    entries
-        .map(|entry| {
-            let (name, number) = entry.split_once('=').expect("a name and a number");
-            (name.trim().to_string(), number.trim().parse().expect("a number"))
-        })
-        .collect()
+    let entry = |text: &str| {
+        let end = text.find(|c: char| !c.is_ascii_uppercase() && c != '_')?;
+        let (name, rest) = text.split_at(end);
+        let number = rest.trim_start().strip_prefix(&['=', ','][..])?.trim_start();
+        let end = number.find(|c: char| !c.is_ascii_digit())?;
+        Some((format!("RECON_{name}"), number[..end].parse().ok()?))
+    };
+    let entries = HEADER.split("RECON_").skip(1).filter_map(entry);
+    entries.filter(|(name, _)| name != "RECON_OK").collect()
 }
 
 #[test]

@@ -8,8 +8,8 @@ use core::fmt;
 /// It owns the marks, the needed list and the query, and makes them larger as the session goes on; the table stays the caller's. The
 /// [front page](crate) has a whole session.
 ///
-/// Memory: a byte for each item, an eighth of the table's own bytes or twice the longest query, and the needed ids with the bytes of the
-/// longest reply.
+/// Memory: a byte for each item; for queries an eighth of the table's own bytes, or up to twice the longest query; for the needed ids as
+/// many bytes as they have, and up to those of the longest reply.
 #[derive(Clone)]
 pub struct Opener<'a> {
     table: Table<'a>,
@@ -105,8 +105,8 @@ impl fmt::Debug for Opener<'_> {
     }
 }
 
-/// The end that answers queries. It keeps nothing from one query to the next but the memory of its reply: an eighth of the table's own
-/// bytes, or twice the longest reply.
+/// The end that answers queries. It keeps nothing from one query to the next but the memory for its replies: an eighth of the table's own
+/// bytes, or up to twice the longest reply.
 #[derive(Clone)]
 pub struct Responder<'a> {
     table: Table<'a>,

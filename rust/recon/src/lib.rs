@@ -2,7 +2,7 @@
 //!
 //! Two ends each hold a table of records, known by a time and an id of 32 bytes. They exchange messages until the end that opened the
 //! session knows which ids it lacks and which the other end lacks. The answer "nothing is missing" can be acted on without a further check:
-//! it is proved, save where two different ranges have the same fingerprint of 16 bytes.
+//! it is proved, save where two different ranges have the same fingerprint of 16 bytes, or an id has not the same time at both ends.
 //!
 //! # A session
 //!
@@ -58,8 +58,8 @@
 //! ```
 //!
 //! No call panics or has a condition: whatever is wrong with what it is handed, it answers with a [`Refusal`], and then it has changed
-//! nothing. After refusals 11 and 12 make the buffer larger and the call again. Each call is proved equal to its definition; this crate
-//! only passes slices on.
+//! nothing. After refusals 11 and 12 make the buffer larger and the call again. Each plain call is proved equal to its definition. This crate
+//! only passes slices on, and the two types keep the buffers.
 //!
 //! # Features
 //!

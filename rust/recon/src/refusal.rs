@@ -28,8 +28,8 @@ macro_rules! refusals {
                 $(#[doc = ""] #[doc = $more])?
                 $kind,
             )+
-            /// A number that this version of the crate has no kind for, from a library that is newer. A later version may have one: go by
-            /// a last arm `_` of a `match` instead of this variant.
+            /// A number that this version of the crate has no kind for, from a library that is newer. A later version may have one, so match
+            /// it by a last arm `_`.
             Unknown(u64),
         }
 

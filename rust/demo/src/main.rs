@@ -1,17 +1,15 @@
 //! `reconcile OURS THEIRS` tells which records each of two files lacks, by a session between an opener that holds the
 //! first and a responder that holds the second. `reconcile --help` has the file format and the options.
-mod ends;
 mod exchange;
 mod options;
 mod progress;
 mod records;
 mod report;
 
-use ends::{Opener, Responder};
 use exchange::{exchange, Exchanged};
 use options::{Command, HELP, USAGE};
 use progress::{stderr_is_terminal, Progress};
-use recon::{Cut, Refusal};
+use recon::{Cut, Opener, Refusal, Responder};
 use records::{BadFile, Records};
 use std::env;
 use std::fmt;
@@ -65,39 +63,46 @@ fn run() -> Result<(), Failure> {
         Command::Help => print(|to| to.write_all(HELP.as_bytes())),
         Command::Reconcile { ours, theirs, cut } => {
             let mut progress = Progress::new(io::stderr(), stderr_is_terminal());
-            let outcome = reconcile(&ours, &theirs, cut, &mut progress);
+            progress.show("reading records");
+            let records = read_both(&ours, &theirs);
             progress.clear();
-            let (opener, exchanged) = outcome?;
+            let (our_records, their_records) = records?;
+            progress.show("opening");
+            let outcome = session(&our_records, &their_records, cut, &mut progress);
+            progress.clear();
+            let (opener, exchanged) = outcome.map_err(Failure::Refused)?;
             print(|to| report::write(to, &opener, &exchanged, &ours, &theirs))
         }
     }
 }
 
-/// Reads both files and runs a session between them: the opener afterwards, and what went over.
-fn reconcile(
-    ours: &Path,
-    theirs: &Path,
+/// Runs a session to its end: the opener afterwards, and what went over.
+fn session<'a>(
+    ours: &'a Records,
+    theirs: &'a Records,
     cut: Cut,
     progress: &mut Progress<impl Write>,
-) -> Result<(Opener, Exchanged), Failure> {
-    progress.show("reading records");
-    let our_records = read(ours)?;
-    let responder = Responder::new(read(theirs)?, cut);
-    progress.show("opening");
-    let (mut opener, first_query) = Opener::open(our_records, cut).map_err(Failure::Refused)?;
-    let exchanged = exchange(&mut opener, first_query, &responder, |exchanged, opener| {
+) -> Result<(Opener<'a>, Exchanged), Refusal> {
+    let mut responder = Responder::new(theirs.table(), cut);
+    let mut opener = Opener::open(ours.table(), cut)?;
+    let exchanged = exchange(&mut opener, &mut responder, |exchanged, opener| {
         progress.show(&describe(exchanged, opener));
-    });
-    Ok((opener, exchanged.map_err(Failure::Refused)?))
+    })?;
+    Ok((opener, exchanged))
+}
+
+fn read_both(ours: &Path, theirs: &Path) -> Result<(Records, Records), Failure> {
+    Ok((read(ours)?, read(theirs)?))
 }
 
 fn read(path: &Path) -> Result<Records, Failure> {
     records::read_file(path).map_err(|fault| Failure::File(path.to_path_buf(), fault))
 }
 
-fn describe(exchanged: &Exchanged, opener: &Opener) -> String {
+fn describe(exchanged: &Exchanged, opener: &Opener<'_>) -> String {
     let bytes = exchanged.queries.bytes + exchanged.replies.bytes;
-    let reported = opener.ours_only_count() + opener.theirs_only_count();
+    let session = opener.session();
+    let reported = session.marked + session.needed;
     format!(
         "round {}: {bytes} bytes exchanged, {reported} records reported",
         exchanged.queries.messages
@@ -116,7 +121,7 @@ mod tests {
 
     #[test]
     fn a_refusal_is_told_by_its_message_and_status_1() {
-        for refusal in Refusal::ALL {
+        for &refusal in Refusal::ALL {
             let failure = Failure::Refused(refusal);
             assert_eq!(failure.exit_status(), 1);
             assert_eq!(failure.to_string(), format!("reconcile: {refusal}"));

@@ -32,6 +32,7 @@ impl Records {
         }
     }
 
+    #[cfg(test)]
     pub fn len(&self) -> usize {
         self.times.len()
     }
@@ -43,6 +44,7 @@ impl Records {
         }
     }
 
+    #[cfg(test)]
     pub fn iter(&self) -> impl Iterator<Item = (u64, &[u8])> {
         self.times.iter().copied().zip(self.ids.chunks_exact(ID_BYTES))
     }

@@ -1,13 +1,13 @@
 //! What is written to standard output.
-use crate::ends::Opener;
 use crate::exchange::{Exchanged, Traffic};
+use recon::Opener;
 use std::io::{self, Write};
 use std::path::Path;
 
 /// Writes a line for each record that is missing at one end, then what went over and the outcome.
 pub fn write(
     to: &mut impl Write,
-    opener: &Opener,
+    opener: &Opener<'_>,
     exchanged: &Exchanged,
     ours: &Path,
     theirs: &Path,
@@ -21,7 +21,7 @@ pub fn write(
     writeln!(to, "rounds:         {}", exchanged.replies.messages)?;
     writeln!(to, "ours to theirs: {}", traffic(exchanged.queries))?;
     writeln!(to, "theirs to ours: {}", traffic(exchanged.replies))?;
-    match (opener.ours_only_count(), opener.theirs_only_count()) {
+    match (opener.session().marked, opener.session().needed) {
         (0, 0) => writeln!(to, "nothing is missing at either end"),
         (a, b) => writeln!(
             to,

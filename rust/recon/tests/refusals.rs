@@ -16,27 +16,32 @@ fn header_name(kind: Refusal) -> String {
     name
 }
 
-/// The names and numbers of the header's list: a name, `=` or a comma, and a number.
-fn header_list() -> Vec<(String, u64)> {
-    let entry = |text: &str| {
-        let end = text.find(|c: char| !c.is_ascii_uppercase() && c != '_')?;
-        let (name, rest) = text.split_at(end);
-        let number = rest.trim_start().strip_prefix(&['=', ','][..])?.trim_start();
-        let end = number.find(|c: char| !c.is_ascii_digit())?;
-        Some((format!("RECON_{name}"), number[..end].parse().ok()?))
-    };
-    let entries = HEADER.split("RECON_").skip(1).filter_map(entry);
-    entries.filter(|(name, _)| name != "RECON_OK").collect()
+/// The rows `REFUSAL(NAME, NUMBER, "TEXT")` of the header: name, number and text.
+fn header_rows() -> Vec<(String, u64, String)> {
+    let rows = HEADER.lines().filter_map(|line| line.trim().strip_prefix("REFUSAL("));
+    rows.map(|row| {
+        let parts: Vec<&str> = row.splitn(3, ", ").collect();
+        let text = parts[2].split('"').nth(1).expect("a text in quotes");
+        (
+            parts[0].to_string(),
+            parts[1].parse().expect("a number"),
+            text.to_string(),
+        )
+    })
+    .collect()
 }
 
 #[test]
 fn the_kinds_are_those_of_the_header() {
-    let kinds: Vec<_> = Refusal::ALL
+    let kinds = Refusal::ALL
         .iter()
-        .map(|&kind| (header_name(kind), kind.number()))
-        .collect();
-    assert_eq!(kinds, header_list());
-    assert!(kinds.iter().map(|(_, number)| *number).eq(1..=kinds.len() as u64));
+        .map(|kind| (header_name(*kind), kind.number(), kind.to_string()));
+    let rows = header_rows().into_iter();
+    assert!(kinds.eq(rows.map(|(name, number, text)| (name, number, format!("refused ({number}): {text}")))));
+    assert!(Refusal::ALL
+        .iter()
+        .map(|kind| kind.number())
+        .eq(1..=Refusal::ALL.len() as u64));
 }
 
 #[test]

@@ -111,7 +111,7 @@ pub fn try_take(
     reply: &[u8],
     session: Session,
     buffers: &mut Buffers,
-) -> Result<Sent, u8> {
+) -> Result<Sent, u64> {
     let Buffers { marks, needed, out } = buffers;
     if way == Way::Library {
         return recon::take_reply(lent(table), cut, reply, session, marks, needed, out)
@@ -128,5 +128,7 @@ pub fn try_take(
         needed: listed,
         done: over,
     };
-    reference::take(times, ids, cut.parts, cut.limit, reply, session, marks, needed, out).map(common)
+    reference::take(times, ids, cut.parts, cut.limit, reply, session, marks, needed, out)
+        .map(common)
+        .map_err(u64::from)
 }

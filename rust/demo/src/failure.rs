@@ -69,7 +69,7 @@ mod tests {
 
     #[test]
     fn a_refusal_is_told_by_its_message() {
-        for refusal in Refusal::ALL {
+        for &refusal in Refusal::ALL {
             assert_eq!(Failure::Refused(refusal).to_string(), format!("reconcile: {refusal}"));
         }
     }

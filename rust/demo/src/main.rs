@@ -1,6 +1,5 @@
 //! `reconcile OURS THEIRS` tells which records each of two files lacks, by a session between an opener that holds the
 //! first and a responder that holds the second. `reconcile --help` has the file format and the options.
-mod ends;
 mod exchange;
 mod failure;
 mod options;
@@ -9,12 +8,11 @@ mod records;
 mod report;
 mod source;
 
-use ends::{Opener, Responder};
 use exchange::{exchange, Exchanged};
 use failure::{Failure, Status};
 use options::{Command, Request, HELP, VERSION};
 use progress::{stderr_is_terminal, Progress};
-use recon::{Cut, Refusal};
+use recon::{Cut, Opener, Refusal, Responder};
 use records::Records;
 use report::{Difference, Report};
 use source::Source;
@@ -46,11 +44,11 @@ fn reconcile(request: &Request) -> Result<Status, Failure> {
     progress.show("reading records");
     let (ours, theirs) = read_both(&request.ours, &request.theirs)?;
     progress.show("opening");
-    let (opener, exchanged) = session(ours, theirs, options.cut, &mut progress).map_err(Failure::Refused)?;
+    let (opener, exchanged) = session(&ours, &theirs, options.cut, &mut progress).map_err(Failure::Refused)?;
     progress.clear();
     let difference = Difference {
-        ours_only: opener.ours_only().collect(),
-        theirs_only: opener.theirs_only().collect(),
+        ours_only: opener.ours_only().map(|(time, id)| (time, &id[..])).collect(),
+        theirs_only: opener.theirs_only().map(|id| &id[..]).collect(),
     };
     report(request, &difference, exchanged)
 }
@@ -74,23 +72,24 @@ fn read(source: &Source) -> Result<Records, Failure> {
 }
 
 /// Runs a session to its end: the opener afterwards, and what went over.
-fn session(
-    ours: Records,
-    theirs: Records,
+fn session<'a>(
+    ours: &'a Records,
+    theirs: &'a Records,
     cut: Cut,
     progress: &mut Progress<impl Write>,
-) -> Result<(Opener, Exchanged), Refusal> {
-    let responder = Responder::new(theirs, cut);
-    let (mut opener, first_query) = Opener::open(ours, cut)?;
-    let exchanged = exchange(&mut opener, first_query, &responder, |exchanged, opener| {
+) -> Result<(Opener<'a>, Exchanged), Refusal> {
+    let mut responder = Responder::new(theirs.table(), cut);
+    let mut opener = Opener::open(ours.table(), cut)?;
+    let exchanged = exchange(&mut opener, &mut responder, |exchanged, opener| {
         progress.show(&describe(exchanged, opener));
     })?;
     Ok((opener, exchanged))
 }
 
-fn describe(exchanged: &Exchanged, opener: &Opener) -> String {
+fn describe(exchanged: &Exchanged, opener: &Opener<'_>) -> String {
     let bytes = exchanged.queries.bytes + exchanged.replies.bytes;
-    let reported = opener.ours_only_count() + opener.theirs_only_count();
+    let session = opener.session();
+    let reported = session.marked + session.needed;
     format!(
         "round {}: {bytes} bytes exchanged, {reported} records reported",
         exchanged.queries.messages

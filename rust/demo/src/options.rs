@@ -1,7 +1,7 @@
 //! The command line.
 use crate::report::Format;
 use crate::source::Source;
-use recon::Cut;
+use recon::{Cut, MAX_LIMIT, MAX_PARTS, MIN_PARTS};
 use std::ffi::OsString;
 
 pub const USAGE: &str = "usage: reconcile [OPTION..] OURS THEIRS
@@ -73,23 +73,12 @@ pub struct Request {
     pub options: Options,
 }
 
-#[derive(Clone, Copy, Debug, PartialEq, Eq)]
+#[derive(Clone, Copy, Debug, Default, PartialEq, Eq)]
 pub struct Options {
     pub cut: Cut,
     pub format: Format,
     pub stats: bool,
     pub quiet: bool,
-}
-
-impl Default for Options {
-    fn default() -> Options {
-        Options {
-            cut: Cut { parts: 16, limit: 64 },
-            format: Format::Text,
-            stats: false,
-            quiet: false,
-        }
-    }
 }
 
 /// Reads the arguments behind the program's name; an error says what is wrong with them.
@@ -199,13 +188,13 @@ impl<'a, I: Iterator<Item = OsString>> Given<'a, I> {
 /// The limits are those of the library's calls. They are checked here too, before a file is read, so that an option out
 /// of its limits is told like other wrong options.
 fn check(cut: Cut) -> Result<(), String> {
-    if !(2..=64).contains(&cut.parts) {
-        return Err(format!("--parts must be 2 to 64, not {}", cut.parts));
+    let Cut { parts, limit } = cut;
+    if !(MIN_PARTS..=MAX_PARTS).contains(&parts) {
+        return Err(format!("--parts must be {MIN_PARTS} to {MAX_PARTS}, not {parts}"));
     }
-    if !(cut.parts..=4096).contains(&cut.limit) {
+    if !(parts..=MAX_LIMIT).contains(&limit) {
         return Err(format!(
-            "--limit must be {} (the parts) to 4096, not {}",
-            cut.parts, cut.limit
+            "--limit must be {parts} (the parts) to {MAX_LIMIT}, not {limit}"
         ));
     }
     Ok(())

@@ -1,11 +1,10 @@
 //! Record files: a record in each line, `TIME ID`. The records of a file become a table, sorted by time and then by id.
-use recon::{Table, MAX_ITEMS};
+use recon::{Table, ID_BYTES, MAX_ITEMS};
 use std::collections::hash_map::{Entry, HashMap};
 use std::fmt;
 use std::io::{self, BufRead, ErrorKind, Read};
 
-pub const ID_BYTES: usize = 32;
-pub type Id = [u8; ID_BYTES];
+type Id = [u8; ID_BYTES];
 
 /// The largest time that a record can have. In messages the next one stands for infinity.
 const LAST_TIME: u64 = u64::MAX - 1;
@@ -37,12 +36,13 @@ impl Records {
 
     /// Sorts records by time and then by id. They stand in lines in the order given.
     #[cfg(test)]
-    pub fn sorted(records: Vec<(u64, Id)>) -> Records {
+    fn sorted(records: Vec<(u64, Id)>) -> Records {
         let numbered = records.iter().zip(1..).map(|(&(time, id), line)| (time, id, line));
         Records::of_lines(numbered.collect())
     }
 
-    pub fn len(&self) -> usize {
+    #[cfg(test)]
+    fn len(&self) -> usize {
         self.times.len()
     }
 

@@ -4,8 +4,9 @@ use crate::source::Source;
 use std::io::{self, Write};
 
 /// How the report is written.
-#[derive(Clone, Copy, Debug, PartialEq, Eq)]
+#[derive(Clone, Copy, Debug, Default, PartialEq, Eq)]
 pub enum Format {
+    #[default]
     Text,
     Tsv,
     Json,

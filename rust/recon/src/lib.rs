@@ -1,33 +1,147 @@
 //! Range-based set reconciliation with the messages of the Negentropy Protocol V1: safe calls over the proved library.
 //!
-//! Two ends each hold a table of records, known by a time and an id of 32 bytes. The opener's [`open_session`] writes a first query; the
-//! responder's [`answer_query`] answers each query; the opener's [`take_reply`] takes each answer and writes the next query, until the
-//! session is done. Then the mark 1 stands on the opener's own items that the other end lacks, and the needed list has the ids that the
-//! opener lacks.
+//! Two ends each hold a table of records, known by a time and an id of 32 bytes. They exchange messages until the end that opened the
+//! session knows which ids it lacks and which the other end lacks. The answer "nothing is missing" can be acted on without a further check:
+//! it is proved, save where two different ranges have the same fingerprint of 16 bytes, or an id has not the same time at both ends.
+//!
+//! # A session
+//!
+//! An [`Opener`] and a [`Responder`] own their buffers. Here both are in one program; otherwise each end has its own table alone, and the
+//! bytes of queries and replies go over whatever connects the two.
+//!
+#![cfg_attr(feature = "alloc", doc = "```")]
+#![cfg_attr(not(feature = "alloc"), doc = "```ignore")]
+//! use recon::{sha256, Cut, Opener, Refusal, Responder, Table};
+//!
+//! let [a, b, c, d] = [sha256(b"a"), sha256(b"b"), sha256(b"c"), sha256(b"d")];
+//! let (our_ids, their_ids) = ([a, b, c].concat(), [a, c, d].concat());
+//! let ours = Table { times: &[100, 200, 300], ids: &our_ids };
+//! let theirs = Table { times: &[100, 300, 400], ids: &their_ids };
+//!
+//! let mut opener = Opener::open(ours, Cut::default())?;
+//! let mut responder = Responder::new(theirs, Cut::default());
+//! while let Some(query) = opener.query() {
+//!     let reply = responder.answer(query)?;
+//!     opener.take(reply)?;
+//! }
+//! assert!(opener.is_done());
+//! assert_eq!(opener.ours_only().collect::<Vec<_>>(), [(200, &b)]);
+//! assert_eq!(opener.theirs_only().collect::<Vec<_>>(), [&d]);
+//! # Ok::<(), Refusal>(())
+//! ```
+//!
+//! # The plain calls
+//!
+//! The same in buffers of the caller: the opener's [`open_session`] writes a first query; the responder's [`answer_query`] answers each
+//! query; the opener's [`take_reply`] takes each answer and writes the next query, until the session is done. Then the mark 1 stands on the
+//! opener's own items that the other end lacks, and the needed list has the ids that the opener lacks.
+//!
+//! ```
+//! use recon::{answer_query, open_session, sha256, take_reply, Cut, Refusal, Table};
+//!
+//! let [a, b, c, d] = [sha256(b"a"), sha256(b"b"), sha256(b"c"), sha256(b"d")];
+//! let (our_ids, their_ids) = ([a, b, c].concat(), [a, c, d].concat());
+//! let ours = Table { times: &[100, 200, 300], ids: &our_ids };
+//! let theirs = Table { times: &[100, 300, 400], ids: &their_ids };
+//! let cut = Cut::default();
+//!
+//! let (mut marks, mut needed, mut out, mut reply) = ([0; 3], [0; 10 * 32], [0; 1000], [0; 1000]);
+//! let mut sent = open_session(ours, cut, &mut marks, &needed, &mut out)?;
+//! while !sent.session.done {
+//!     let length = answer_query(theirs, cut, &out[..sent.length], &mut reply)?;
+//!     let reply = &reply[..length];
+//!     sent = take_reply(ours, cut, reply, sent.session, &mut marks, &mut needed, &mut out)?;
+//! }
+//! assert_eq!(marks, [0, 1, 0]);
+//! assert_eq!(needed[..32 * sent.session.needed], d);
+//! # Ok::<(), Refusal>(())
+//! ```
 //!
 //! No call panics or has a condition: whatever is wrong with what it is handed, it answers with a [`Refusal`], and then it has changed
-//! nothing. Each call is proved equal to its definition; this crate only passes slices on.
+//! nothing. After refusals 11 and 12 make the buffer larger and the call again. Each plain call is proved equal to its definition. This crate
+//! only passes slices on, and the two types keep the buffers.
+//!
+//! # Features
+//!
+//! - `std` (on by default): [`Refusal`] is an `std::error::Error`. Without it the crate needs `core` alone.
+//! - `alloc` (with `std`): `Opener` and `Responder`.
+//!
+//! # Linking
+//!
+//! The library is `librecon.a`, as it is installed, or `libcapi.a`, as the repository builds it. It is looked for in the folder that the variable
+//! `RECON_LIB_DIR` names, or else where the repository and the archive have it. It needs nothing but `memcpy` and `memset`.
+#![no_std]
+#![warn(missing_docs)]
 
+#[cfg(feature = "alloc")]
+extern crate alloc;
+#[cfg(feature = "std")]
+extern crate std;
+
+#[cfg(feature = "alloc")]
+mod ends;
 mod ffi;
 mod refusal;
 
+#[cfg(feature = "alloc")]
+pub use ends::{Opener, Responder};
 pub use refusal::Refusal;
+
+/// The version of this crate.
+pub const VERSION: &str = env!("CARGO_PKG_VERSION");
+
+/// The bytes of an id.
+pub const ID_BYTES: usize = 32;
+
+/// The bytes of a fingerprint.
+pub const FINGERPRINT_BYTES: usize = 16;
 
 /// The most items that a table may have.
 pub const MAX_ITEMS: usize = 1_048_576;
 
+/// The fewest parts that a cut may have.
+pub const MIN_PARTS: usize = 2;
+
+/// The most parts that a cut may have.
+pub const MAX_PARTS: usize = 64;
+
+/// The largest list limit that a cut may have. The smallest is its parts.
+pub const MAX_LIMIT: usize = 4096;
+
+/// The bytes of the longest opening: version, bound and mode, and the count and the ids of a list of [`MAX_LIMIT`]. With so large an out
+/// buffer no opening is refused by 12.
+pub const MAX_OPENING_BYTES: usize = 1 + 2 + 1 + 2 + ID_BYTES * MAX_LIMIT;
+
 /// A table: a time for each item, below 2^64 - 1, and 32 bytes of id for each, in the same order; strictly rising by time, then by id.
 #[derive(Clone, Copy, Debug)]
 pub struct Table<'a> {
+    /// A time for each item.
     pub times: &'a [u64],
+    /// The ids, one behind the other.
     pub ids: &'a [u8],
 }
 
-/// How a range is cut: into `parts` (2 to 64), if it holds more than `limit` items (`parts` to 4,096).
-#[derive(Clone, Copy, Debug, PartialEq, Eq)]
+/// How a range is cut: into `parts`, if it holds more than `limit` items; otherwise its ids are listed.
+///
+/// ```
+/// use recon::{Cut, MAX_LIMIT, MAX_PARTS};
+///
+/// assert_eq!(Cut::default(), Cut { parts: 16, limit: 64 });
+/// let largest = Cut { parts: MAX_PARTS, limit: MAX_LIMIT }; // fewer rounds, longer messages
+/// ```
+#[derive(Clone, Copy, Debug, PartialEq, Eq, Hash)]
 pub struct Cut {
+    /// [`MIN_PARTS`] to [`MAX_PARTS`].
     pub parts: usize,
+    /// `parts` to [`MAX_LIMIT`].
     pub limit: usize,
+}
+
+impl Default for Cut {
+    /// 16 parts, and lists of at most 64 ids.
+    fn default() -> Cut {
+        Cut { parts: 16, limit: 64 }
+    }
 }
 
 /// The opener's session. It goes with the marks and the needed list as the last call left them.
@@ -46,18 +160,26 @@ pub struct Session {
 pub struct Sent {
     /// The length of the query at the start of the out buffer; 0 if the session is done.
     pub length: usize,
+    /// The session, for the next call.
     pub session: Session,
 }
 
 /// A bound of a range: above everything, or a time and the first bytes of an id, missing bytes counting as 00.
 #[derive(Clone, Copy, Debug, PartialEq, Eq)]
 pub enum Bound<'a> {
+    /// Above every item.
     Infinity,
-    At { time: u64, prefix: &'a [u8] },
+    /// Above every item of an earlier time, and those of the same time with an id below the prefix.
+    At {
+        /// Below 2^64 - 1.
+        time: u64,
+        /// At most 32 bytes.
+        prefix: &'a [u8],
+    },
 }
 
 /// Opens a session: writes the first query at the start of `out`, and sets `marks`, one byte for each item, to 0. The buffer `needed`, of
-/// whole ids, is only looked at: the list in it is empty.
+/// whole ids, is only looked at: the list in it is empty. [`MAX_OPENING_BYTES`] are room enough in `out`.
 ///
 /// # Errors
 /// Refusals 1 to 4 and 12; then no byte has changed.
@@ -87,6 +209,9 @@ pub fn answer_query(table: Table<'_>, cut: Cut, query: &[u8], out: &mut [u8]) ->
 /// list at the start of `needed`, and writes the next query at the start of `out`. Where that would say nothing, the session is done, and
 /// nothing is written. The call keeps less than 512 KiB on the stack.
 ///
+/// Give `needed` room for `session.needed + reply.len() / 32` ids. Then the call is not refused by 11, and need not count the new ids to
+/// know it, which may take it many times as long as all else.
+///
 /// # Errors
 /// Refusals 1 to 12; then no byte has changed, and the session is still the one handed over.
 pub fn take_reply(
@@ -103,10 +228,21 @@ pub fn take_reply(
 
 /// The fingerprint of the items at or above `lower` and below `upper`; that of no items, where `lower` is not below `upper`.
 ///
+/// ```
+/// use recon::{fingerprint, sha256, Bound, Refusal, Table};
+///
+/// let ids = [sha256(b"a"), sha256(b"b"), sha256(b"c")].concat();
+/// let table = Table { times: &[5, 7, 9], ids: &ids };
+/// let at = |time| Bound::At { time, prefix: &[] };
+/// assert_eq!(fingerprint(table, at(6), at(9)), fingerprint(table, at(7), at(8)));
+/// assert_ne!(fingerprint(table, at(6), at(9)), fingerprint(table, at(6), Bound::Infinity));
+/// assert_eq!(fingerprint(table, at(u64::MAX), Bound::Infinity), Err(Refusal::BadBound));
+/// ```
+///
 /// # Errors
 /// Refusals 1, 2 and 9.
-pub fn fingerprint(table: Table<'_>, lower: Bound<'_>, upper: Bound<'_>) -> Result<[u8; 16], Refusal> {
-    let mut bytes = [0; 16];
+pub fn fingerprint(table: Table<'_>, lower: Bound<'_>, upper: Bound<'_>) -> Result<[u8; FINGERPRINT_BYTES], Refusal> {
+    let mut bytes = [0; FINGERPRINT_BYTES];
     match Refusal::from_number(ffi::fingerprint(table, lower, upper, &mut bytes)) {
         Some(refusal) => Err(refusal),
         None => Ok(bytes),
@@ -114,6 +250,10 @@ pub fn fingerprint(table: Table<'_>, lower: Bound<'_>, upper: Bound<'_>) -> Resu
 }
 
 /// SHA-256 of a message.
+///
+/// ```
+/// assert_eq!(recon::sha256(b"abc")[..4], [0xba, 0x78, 0x16, 0xbf]);
+/// ```
 pub fn sha256(message: &[u8]) -> [u8; 32] {
     ffi::sha256(message)
 }

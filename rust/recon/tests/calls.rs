@@ -1,4 +1,4 @@
-//! The safe calls on worked examples of the specification, and the refusals' numbers.
+//! The safe calls on worked examples of the specification.
 use recon::{answer_query, fingerprint, open_session, sha256, take_reply, Bound, Cut, Refusal, Session, Table};
 
 const CUT: Cut = Cut { parts: 2, limit: 2 };
@@ -95,15 +95,5 @@ fn fingerprints_of_ranges() {
     assert_eq!(
         fingerprint(table, at(u64::MAX, &[]), Bound::Infinity),
         Err(Refusal::BadBound)
-    );
-}
-
-#[test]
-fn refusals_have_their_numbers() {
-    let numbers: Vec<u8> = Refusal::ALL.iter().map(|r| r.number()).collect();
-    assert_eq!(numbers, (1..=12).collect::<Vec<u8>>());
-    assert_eq!(
-        Refusal::NoRoom.to_string(),
-        "refused (12): the out buffer is too small for the message"
     );
 }

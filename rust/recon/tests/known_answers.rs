@@ -3,7 +3,7 @@
 use recon::{fingerprint, open_session, Bound, Cut, Refusal, Session, Table};
 
 /// Bytes, or the number of a refusal.
-type Answer = Result<Vec<u8>, u8>;
+type Answer = Result<Vec<u8>, u64>;
 
 /// The items of a table, lawful or not.
 #[derive(Clone)]

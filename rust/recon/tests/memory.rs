@@ -1,0 +1,138 @@
+//! What the two ends do where memory cannot be had, and how much of it they take.
+#![cfg(feature = "alloc")]
+use recon::{sha256, Cut, Opener, Refusal, Responder, Session, Table};
+use std::alloc::{GlobalAlloc, Layout, System};
+use std::cell::Cell;
+
+/// The system's allocator, which has no piece of memory above a size to give, and notes the largest that was asked for.
+struct Limited;
+
+thread_local! {
+    static LARGEST: Cell<usize> = const { Cell::new(usize::MAX) };
+    static ASKED: Cell<usize> = const { Cell::new(0) };
+}
+
+// SAFETY: what is handed out is the system allocator's, and goes back to it; null says that there is no memory.
+unsafe impl GlobalAlloc for Limited {
+    unsafe fn alloc(&self, layout: Layout) -> *mut u8 {
+        ASKED.with(|asked| asked.set(asked.get().max(layout.size())));
+        if layout.size() > LARGEST.with(Cell::get) {
+            return std::ptr::null_mut();
+        }
+        System.alloc(layout)
+    }
+
+    unsafe fn dealloc(&self, memory: *mut u8, layout: Layout) {
+        System.dealloc(memory, layout);
+    }
+}
+
+#[global_allocator]
+static ALLOCATOR: Limited = Limited;
+
+/// Calls with no piece of memory above a size.
+fn with_largest<T>(size: usize, call: impl FnOnce() -> T) -> T {
+    LARGEST.with(|largest| largest.set(size));
+    let result = call();
+    LARGEST.with(|largest| largest.set(usize::MAX));
+    result
+}
+
+/// The largest piece of memory that a call asks for.
+fn largest_asked<T>(call: impl FnOnce() -> T) -> usize {
+    ASKED.with(|asked| asked.set(0));
+    call();
+    ASKED.with(Cell::get)
+}
+
+/// Records, with the hash of each time as its id.
+struct Records {
+    times: Vec<u64>,
+    ids: Vec<u8>,
+}
+
+impl Records {
+    fn new(count: u64) -> Records {
+        Records {
+            times: (0..count).collect(),
+            ids: (0..count).flat_map(|time| sha256(&time.to_be_bytes())).collect(),
+        }
+    }
+
+    fn table(&self) -> Table<'_> {
+        let Records { times, ids } = self;
+        Table { times, ids }
+    }
+}
+
+const NONE: Table<'static> = Table { times: &[], ids: &[] };
+
+/// A cut that lists 1,000 ids, a buffer that holds them, and one that is too small.
+const LISTS: Cut = Cut { parts: 16, limit: 4096 };
+const ENOUGH: usize = 100_000;
+const TOO_SMALL: usize = 20_000;
+
+#[test]
+fn an_opening_needs_marks_and_room() {
+    let many = Records::new(1000);
+    for size in [0, 999, 1000, TOO_SMALL] {
+        let refused = with_largest(size, || Opener::open(many.table(), LISTS).err());
+        assert_eq!(refused, Some(Refusal::NoRoom));
+    }
+    assert!(with_largest(ENOUGH, || Opener::open(many.table(), LISTS)).is_ok());
+}
+
+#[test]
+fn an_answer_needs_room() {
+    let many = Records::new(1000);
+    let opener = Opener::open(NONE, LISTS).unwrap();
+    let query = opener.query().unwrap();
+    let mut responder = Responder::new(many.table(), LISTS);
+    for size in [0, 5000, TOO_SMALL] {
+        let refused = with_largest(size, || responder.answer(query).err());
+        assert_eq!(refused, Some(Refusal::NoRoom));
+    }
+    assert_eq!(responder.answer(query).map(<[u8]>::len), Ok(6 + 32 * 1000));
+}
+
+#[test]
+fn a_take_without_memory_for_the_ids_changes_nothing() {
+    let many = Records::new(1000);
+    let mut opener = Opener::open(NONE, LISTS).unwrap();
+    let query = opener.query().unwrap().to_vec();
+    let mut responder = Responder::new(many.table(), LISTS);
+    let reply = responder.answer(&query).unwrap();
+    let refused = with_largest(TOO_SMALL, || opener.take(reply));
+    assert_eq!(refused, Err(Refusal::NeededFull));
+    let (marked, needed, done) = (0, 0, false);
+    assert_eq!(opener.session(), Session { marked, needed, done });
+    assert_eq!((opener.query(), opener.theirs_only().count()), (Some(&query[..]), 0));
+    assert_eq!(opener.take(reply), Ok(()));
+    assert_eq!((opener.query(), opener.theirs_only().count()), (None, 1000));
+}
+
+#[test]
+fn a_take_without_memory_for_the_query_changes_nothing() {
+    let many = Records::new(1000);
+    let mut opener = Opener::open(many.table(), Cut::default()).unwrap();
+    let query = opener.query().unwrap().to_vec();
+    // Fingerprints that no range has, one for every three records, so that all ids are listed next.
+    let ranges = (1..=333).flat_map(|_| [&[4, 0, 1][..], &[0xa5; 16]].concat());
+    let reply: Vec<u8> = [0x61].into_iter().chain(ranges).collect();
+    assert_eq!(with_largest(TOO_SMALL, || opener.take(&reply)), Err(Refusal::NoRoom));
+    assert_eq!((opener.query(), opener.is_done()), (Some(&query[..]), false));
+    assert_eq!(opener.take(&reply), Ok(()));
+    assert!(opener.query().unwrap().len() > 32 * 990);
+}
+
+#[test]
+fn an_end_takes_memory_as_its_table_does() {
+    let whole_round = |table: Table<'_>| {
+        let mut opener = Opener::open(table, Cut::default()).unwrap();
+        let mut responder = Responder::new(table, Cut::default());
+        opener.take(responder.answer(opener.query().unwrap()).unwrap())
+    };
+    assert_eq!(largest_asked(|| whole_round(NONE)), 4096);
+    let many = Records::new(100_000);
+    assert_eq!(largest_asked(|| whole_round(many.table())), 100_000 * (8 + 32) / 8);
+}

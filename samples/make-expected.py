@@ -1,12 +1,15 @@
 #!/usr/bin/env python3
-"""Prints what reconcile must write for the record files OURS and THEIRS with the default options.
+"""Prints what reconcile must write for the record files OURS and THEIRS with the default cut.
 
     ./make-expected.py ours.txt theirs.txt >expected.txt
+    ./make-expected.py [--format text|tsv|json] [--stats] OURS THEIRS
 
 The missing records are the differences of the two sets of lines. The messages are made by an implementation of the two
-ends that shares nothing with the library.
+ends that shares nothing with the library. With --format tsv, what --stats adds goes to standard error, as reconcile's does.
 """
+import argparse
 import hashlib
+import json
 import sys
 
 PARTS, LIMIT = 16, 64
@@ -89,9 +92,9 @@ def treat(table, ranges, on_ids):
     return written
 
 
-def main():
-    ours, theirs = load(sys.argv[1]), load(sys.argv[2])
-    queries, replies, reported = [], [], [set(), set()]
+def session(ours, theirs):
+    """The sizes of the messages each way, and what the opener has reported in the end."""
+    queries, replies, reported = [], [], (set(), set())
 
     def list_own(upper, items, _):
         return upper, IDS, [id_ for _, id_ in items]
@@ -107,18 +110,62 @@ def main():
         queries.append(size(query))
         replies.append(size(reply))
         query = treat(ours, reply, report)
+    return queries, replies, reported
 
+
+def text(records, stats, names):
+    for side, time, id_ in records:
+        print(f"{side + ' only':<12} {'-' if time is None else time} {id_}")
+    if stats:
+        print(f"rounds:         {stats['rounds']}")
+        for way in "ours to theirs", "theirs to ours":
+            messages, size_ = (stats[f"{way.replace(' ', '_')}_{what}"] for what in ("messages", "bytes"))
+            print(f"{way}: {messages} messages, {size_} bytes")
+    only = [sum(side == end for side, _, _ in records) for end in ("ours", "theirs")]
+    print(f"{only[0]} records only in {names[0]}, {only[1]} only in {names[1]}")
+
+
+def tsv(records, stats, _):
+    print("side", "time", "id", sep="\t")
+    for side, time, id_ in records:
+        print(side, "-" if time is None else time, id_, sep="\t")
+    for name, number in (stats or {}).items():
+        print(name, number, sep="\t", file=sys.stderr)
+
+
+def json_object(records, stats, _):
+    fields = []
+    for end in "ours", "theirs":
+        rows = [json.dumps({"time": time, "id": id_}) for side, time, id_ in records if side == end]
+        fields.append(f'"{end}_only": [' + ("\n" + ",\n".join(rows) + "\n" if rows else "") + "]")
+    if stats:
+        fields.append(f'"stats": {json.dumps(stats)}')
+    print("{\n" + ",\n".join(fields) + "\n}")
+
+
+FORMATS = {"text": text, "tsv": tsv, "json": json_object}
+
+
+def main():
+    parser = argparse.ArgumentParser()
+    parser.add_argument("--format", choices=FORMATS, default="text")
+    parser.add_argument("--stats", action="store_true")
+    parser.add_argument("files", nargs=2)
+    arguments = parser.parse_args()
+    ours, theirs = map(load, arguments.files)
+    queries, replies, reported = session(ours, theirs)
     ours_only = sorted(set(ours) - set(theirs))
     theirs_only = sorted(id_ for _, id_ in set(theirs) - set(ours))
-    assert (set(ours_only), set(theirs_only)) == tuple(reported)
-    for time, id_ in ours_only:
-        print(f"ours only    {time} {id_.hex()}")
-    for id_ in theirs_only:
-        print(f"theirs only  {id_.hex()}")
-    print(f"rounds:         {len(queries)}")
-    print(f"ours to theirs: {len(queries)} messages, {sum(queries)} bytes")
-    print(f"theirs to ours: {len(replies)} messages, {sum(replies)} bytes")
-    print(f"{len(ours_only)} records only in {sys.argv[1]}, {len(theirs_only)} only in {sys.argv[2]}")
+    assert (set(ours_only), set(theirs_only)) == reported
+    stats = {
+        "rounds": len(queries),
+        "ours_to_theirs_messages": len(queries),
+        "ours_to_theirs_bytes": sum(queries),
+        "theirs_to_ours_messages": len(replies),
+        "theirs_to_ours_bytes": sum(replies),
+    }
+    records = [("ours", time, id_.hex()) for time, id_ in ours_only] + [("theirs", None, id_.hex()) for id_ in theirs_only]
+    FORMATS[arguments.format](records, stats if arguments.stats else None, arguments.files)
 
 
 main()

@@ -7,32 +7,42 @@ if [ $# -ne 1 ] || [ ! -x "$1" ]; then
     exit 2
 fi
 program=$(realpath "$1")
-samples=$(realpath "$(dirname "$0")/../../samples")
+folder=$(realpath "$(dirname "$0")")
+samples=$(realpath "$folder/../../samples")
+manual=$(realpath "$folder/../../man/reconcile.1")
 work=$(mktemp -d)
 trap 'rm -rf "$work"' EXIT
 cd "$work"
 passed=0
 
-# Compares what is with what must be: NAME WHAT-MUST-BE WHAT-IS.
-same() {
-    if ! diff -u --label expected --label actual "$2" "$3"; then
+# Runs a command that must succeed: NAME COMMAND..
+must() {
+    if ! "${@:2}"; then
         echo "FAILED: $1" >&2
         exit 1
     fi
+    passed=$((passed + 1))
 }
+
+# Compares what is with what must be: NAME WHAT-MUST-BE WHAT-IS.
+same() { must "$1" diff -u --label expected --label actual "$2" "$3"; }
 
 # Runs the program and compares all that it leaves: NAME STATUS ARGUMENT.. The expected output stands in the file `want`, the
 # expected errors in the file `errors`; a file that is not there stands for none.
 check() {
-    local name=$1 status=$2 actual=0
-    shift 2
-    touch want errors
-    "$program" "$@" >got 2>got-errors || actual=$?
-    same "$name: errors" errors got-errors
-    same "$name: output" want got
-    same "$name: exit status" <(echo "$status") <(echo "$actual")
+    check_into 3 "$@" 3>got
+    same "$1: output" want got
     rm want errors
-    passed=$((passed + 1))
+}
+
+# The same for an output that cannot be read again, open as a descriptor: DESCRIPTOR NAME STATUS ARGUMENT..
+check_into() {
+    local output=$1 name=$2 status=$3 actual=0
+    shift 3
+    touch want errors
+    "$program" "$@" 1>&"$output" 2>got-errors || actual=$?
+    same "$name: errors" errors got-errors
+    same "$name: exit status" <(echo "$status") <(echo "$actual")
 }
 
 # A bad file, given as either of the two, is refused with its name, the line and what is wrong: NAME LINE MESSAGE, and the file's
@@ -48,12 +58,12 @@ bad() {
 
 # Wrong arguments are told, together with the usage: MESSAGE ARGUMENT..
 wrong() {
-    printf 'reconcile: %s\nusage: reconcile [--parts B] [--limit T] OURS THEIRS\n       reconcile --help\n' "$1" >errors
+    printf 'reconcile: %s\nusage: reconcile [OPTION..] OURS THEIRS\n       reconcile --help\n' "$1" >errors
     check "arguments: ${*:2}" 2 "${@:2}"
 }
 
-# The ids that are reported at one end: WORD (ours or theirs), FILE.
-reported() { sed -n "s/^$1 only  .*\(.\{64\}\)\$/\1/p" "$2" | sort; }
+# The ids that a report on standard input has at one end: WORD (ours or theirs).
+reported() { sed -n "s/^$1 only  .*\(.\{64\}\)\$/\1/p" | sort; }
 
 # The ids in the first file that the second has not, by other means: FILE FILE.
 lacking() { comm -23 <(ids_of "$1") <(ids_of "$2"); }
@@ -65,28 +75,40 @@ upper=${a^^}
 cp "$samples/ours.txt" "$samples/theirs.txt" .
 echo "5 $a" >good.txt
 
-# The samples.
+# The samples, as another implementation has them, in each format.
+same 'the expected output' "$samples/expected.txt" <("$samples/make-expected.py" ours.txt theirs.txt)
 cp "$samples/expected.txt" want
-check samples 0 ours.txt theirs.txt
+check samples 1 ours.txt theirs.txt
+for format in text tsv json; do
+    for stats in '' --stats; do
+        "$samples/make-expected.py" --format $format $stats ours.txt theirs.txt >want 2>errors
+        check "samples: $format $stats" 1 ours.txt theirs.txt --format $format $stats
+    done
+done
+must 'the object is JSON' python3 -m json.tool got /dev/null
 
-"$program" ours.txt theirs.txt >forth
-"$program" theirs.txt ours.txt >back
+forth=$("$program" ours.txt theirs.txt) || true
+back=$("$program" theirs.txt ours.txt) || true
 lacking ours.txt theirs.txt >ours-lacking
 lacking theirs.txt ours.txt >theirs-lacking
-same 'ours only' ours-lacking <(reported ours forth)
-same 'theirs only' theirs-lacking <(reported theirs forth)
-same 'swapped files: ours only' theirs-lacking <(reported ours back)
-same 'swapped files: theirs only' ours-lacking <(reported theirs back)
-passed=$((passed + 4))
+same 'ours only' ours-lacking <(reported ours <<<"$forth")
+same 'theirs only' theirs-lacking <(reported theirs <<<"$forth")
+same 'swapped files: ours only' theirs-lacking <(reported ours <<<"$back")
+same 'swapped files: theirs only' ours-lacking <(reported theirs <<<"$back")
 
 # Other cuts report the same, in more or fewer rounds.
 for cut in '2 2' '3 4096' '64 64'; do
     read -r parts limit <<<"$cut"
-    "$program" --parts "$parts" ours.txt theirs.txt --limit "$limit" >other
-    same "cut $cut" <(grep only forth) <(grep only other)
-    passed=$((passed + 1))
+    cp "$samples/expected.txt" want
+    check "cut $cut" 1 --parts "$parts" ours.txt theirs.txt --limit "$limit"
+    cp "$samples/expected.txt" want
+    check "cut $cut, values joined" 1 --parts="$parts" --limit="$limit" ours.txt theirs.txt
 done
-same 'rounds with 2 parts and limit 2' <(echo 'rounds:         6') <("$program" ours.txt theirs.txt --parts 2 --limit 2 | grep rounds)
+# rounds ARGUMENT..: how many rounds it takes.
+rounds() { { "$program" ours.txt theirs.txt --stats "$@" || true; } | sed -n 's/^rounds: *//p'; }
+same 'rounds, with 2 parts and limit 2' <(echo 6) <(rounds --parts 2 --limit 2)
+same 'rounds, with joined values' <(echo 6) <(rounds --parts=2 --limit=2)
+same 'rounds, of options given twice' <(echo 6) <(rounds --parts 16 --limit 64 --parts 2 --limit=2)
 
 # Equal files, in whatever order and spelling.
 grep -v '^#' ours.txt | sort -r | tr a-f A-F | sed 's/$/\r/' >reordered.txt
@@ -97,7 +119,12 @@ ours to theirs: 1 message, 340 bytes
 theirs to ours: 1 message, 1 byte
 nothing is missing at either end
 END
-check 'equal files' 0 ours.txt reordered.txt
+check 'equal files' 0 --stats ours.txt reordered.txt
+printf 'side\ttime\tid\n' >want
+check 'equal files: tsv' 0 --format tsv ours.txt reordered.txt
+printf '{\n"ours_only": [],\n"theirs_only": []\n}\n' >want
+check 'equal files: json' 0 --format=json ours.txt reordered.txt
+must 'the object of empty lists is JSON' python3 -m json.tool got /dev/null
 
 # Empty files.
 : >empty.txt
@@ -108,7 +135,7 @@ ours to theirs: 1 message, 5 bytes
 theirs to ours: 1 message, 5 bytes
 nothing is missing at either end
 END
-check 'empty files' 0 empty.txt comments.txt
+check 'empty files' 0 empty.txt comments.txt --stats
 
 cat >want <<END
 ours only    5 $a
@@ -117,16 +144,16 @@ ours to theirs: 1 message, 37 bytes
 theirs to ours: 1 message, 5 bytes
 1 record only in good.txt, 0 only in empty.txt
 END
-check 'the second file empty' 0 good.txt empty.txt
+check 'the second file empty' 1 --stats good.txt empty.txt
 
 cat >want <<END
-theirs only  $a
+theirs only  - $a
 rounds:         1
 ours to theirs: 1 message, 5 bytes
 theirs to ours: 1 message, 37 bytes
 0 records only in empty.txt, 1 only in good.txt
 END
-check 'the first file empty' 0 empty.txt good.txt
+check 'the first file empty' 1 --stats empty.txt good.txt
 
 # The smallest and the largest time; equal times, in the order of the ids.
 printf '18446744073709551614 %s\n0 %s\n0 %s\n' "${a/00/33}" "$b" "$upper" >times.txt
@@ -134,12 +161,69 @@ cat >want <<END
 ours only    0 $a
 ours only    0 $b
 ours only    18446744073709551614 ${a/00/33}
-rounds:         1
-ours to theirs: 1 message, 101 bytes
-theirs to ours: 1 message, 5 bytes
 3 records only in times.txt, 0 only in empty.txt
 END
-check 'times and order' 0 times.txt empty.txt
+check 'times and order' 1 times.txt empty.txt
+printf 'side\ttime\tid\nours\t0\t%s\nours\t0\t%s\nours\t18446744073709551614\t%s\n' "$a" "$b" "${a/00/33}" >want
+check 'times and order: tsv' 1 --format tsv times.txt empty.txt
+largest() { python3 -c 'import json, sys; print(max(record["time"] for record in json.load(sys.stdin)["ours_only"]))'; }
+same 'the largest time: json' <(echo 18446744073709551614) <({ "$program" --format json times.txt empty.txt || true; } | largest)
+
+# Nothing but the status.
+for options in -q --quiet '-q --stats' '--quiet --format json' '-q --format tsv --stats'; do
+    read -r -a words <<<"$options"
+    check "$options: a difference" 1 "${words[@]}" ours.txt theirs.txt
+    check "$options: none" 0 "${words[@]}" ours.txt reordered.txt
+    echo 'missing.txt: No such file or directory (os error 2)' >errors
+    check "$options: trouble" 2 "${words[@]}" ours.txt missing.txt
+done
+
+# Standard input.
+cat >want <<END
+ours only    5 $a
+1 record only in standard input, 0 only in empty.txt
+END
+check 'the first file from standard input' 1 - empty.txt <good.txt
+cat >want <<END
+theirs only  - $a
+0 records only in empty.txt, 1 only in standard input
+END
+check 'the second file from standard input' 1 empty.txt -- - <good.txt
+echo 'standard input:2: the id is not 64 hex digits' >errors
+check 'a bad record from standard input' 2 good.txt - <<<$'\n5 x'
+echo 'standard input: Is a directory (os error 21)' >errors
+check 'a directory as standard input' 2 good.txt - <.
+echo 'nothing is missing at either end' >want
+cp good.txt ./-
+check 'a file whose name is -' 0 ./- good.txt </dev/null
+cp good.txt ./--quiet
+echo 'nothing is missing at either end' >want
+check 'a file whose name is an option' 0 -- --quiet good.txt
+
+# A byte-order mark.
+printf '\xef\xbb\xbf' | cat - ours.txt >marked.txt
+echo 'nothing is missing at either end' >want
+check 'a byte-order mark before a comment' 0 marked.txt ours.txt
+printf '\xef\xbb\xbf' | cat - good.txt >marked.txt
+echo 'nothing is missing at either end' >want
+check 'a byte-order mark before a record' 0 good.txt marked.txt
+bad 'two byte-order marks' 1 'the time is not a decimal number' < <(printf '\xef\xbb\xbf'; cat marked.txt)
+bad 'a byte-order mark in another line' 2 'the time is not a decimal number' < <(echo; cat marked.txt)
+bad 'UTF-16' 1 'the text is UTF-16; a record file is ASCII or UTF-8' < <(printf '\xff\xfe5\0 \0a\0\n\0')
+bad 'UTF-16, high bytes first' 1 'the text is UTF-16; a record file is ASCII or UTF-8' < <(printf '\xfe\xff\0005\0 \0a\0\n')
+
+# An id under two times in the two files together.
+c=${a/00/c0}
+printf '# ours\n5 %s\n6 %s\n7 %s\n' "$a" "$b" "$c" >first.txt
+printf '7 %s\n\n8 %s\n4 %s\n' "$c" "$b" "$a" >second.txt
+echo 'second.txt:3: the id stands in first.txt:3 with another time' >errors
+check 'an id under two times in two files' 2 first.txt second.txt
+echo 'first.txt:2: the id stands in second.txt:4 with another time' >errors
+check 'an id under two times, swapped files' 2 second.txt first.txt
+echo 'standard input:3: the id stands in first.txt:3 with another time' >errors
+check 'an id under two times, standard input' 2 --quiet first.txt - <second.txt
+echo 'second.txt:3: the id stands in standard input:3 with another time' >errors
+check 'an id under two times, standard input first' 2 - second.txt <first.txt
 
 # Bad files.
 fields='not a time and an id with one space between them'
@@ -192,7 +276,15 @@ wrong 'two files are needed, not 0'
 wrong 'two files are needed, not 1' good.txt
 wrong 'two files are needed, not 3' good.txt good.txt good.txt
 wrong 'unknown option "--part"' good.txt good.txt --part 2
-wrong 'unknown option "-h"' -h
+wrong 'unknown option "--part"' good.txt good.txt --part=2
+wrong 'unknown option "-x"' -x good.txt good.txt
+wrong 'two files are needed, not 3' good.txt -- --help --version
+wrong 'only one of the files can be - (standard input)' - -
+wrong '--quiet takes no value' good.txt good.txt --quiet=yes
+wrong '--stats takes no value' good.txt good.txt --stats=
+wrong '--format needs text, tsv or json' good.txt good.txt --format
+wrong '--format needs text, tsv or json, not "xml"' good.txt good.txt --format xml
+wrong '--format needs text, tsv or json, not ""' good.txt good.txt --format=
 wrong '--parts needs a number' good.txt good.txt --parts
 wrong '--limit needs a number, not "good.txt"' --limit good.txt good.txt
 wrong '--parts needs a number, not ""' good.txt good.txt --parts ''
@@ -203,18 +295,75 @@ wrong '--parts must be 2 to 64, not 65' good.txt good.txt --parts 65 --limit 65
 wrong '--limit must be 16 (the parts) to 4096, not 15' good.txt good.txt --limit 15
 wrong '--limit must be 16 (the parts) to 4096, not 4097' good.txt good.txt --limit 4097
 
+# Help and version.
 "$program" --help >help
-same 'help' <(echo 'usage: reconcile [--parts B] [--limit T] OURS THEIRS') <(head -n 1 help)
+same 'help' <(echo 'usage: reconcile [OPTION..] OURS THEIRS') <(head -n 1 help)
 same 'help, in 80 columns' /dev/null <(grep -E '.{81}' help)
-passed=$((passed + 2))
+for word in -q --quiet --stats --format --parts --limit -h --help -V --version ' -- ' text tsv json ' - ' 'exit status is 0'; do
+    must "help on $word" grep -qFe "$word" help
+done
+for option in -h --help '--help --parts'; do
+    read -r -a words <<<"$option"
+    cp help want
+    check "$option" 0 "${words[@]}"
+done
+sed -n 's/^version = "\(.*\)"$/reconcile \1/p' "$folder/Cargo.toml" >version
+for option in -V --version; do
+    cp version want
+    check "$option" 0 $option
+done
+
+# The manual page has the version, and every option that the help has.
+same 'the version of the manual page' version <(sed -n 's/^\.Os //p' "$manual")
+sed -n '/^  -/ s/   .*//p' help | grep -oE -- '-[A-Za-z]+' | tr -d - >options
+must 'the options that the help has' [ "$(wc -l <options)" -ge 10 ]
+while read -r option; do
+    must "the manual page on $option" grep -qE "^\.It .*Fl $option( |\$)" "$manual"
+done <options
+
+# A reader that closes the output early: no message; 1 if something is missing, and otherwise 2. Many records fill the pipe.
+awk 'BEGIN { for (i = 0; i < 10000; i++) printf "%d %064x\n", i, i }' >many.txt
+for format in text tsv json; do
+    "$program" --format $format many.txt empty.txt >whole || true
+    status=0
+    "$program" --format $format many.txt empty.txt 2>got-errors | head -n 1 >got || status=$?
+    same "head: $format" <(head -n 1 whole; echo 1) <(cat got got-errors; echo "$status")
+done
+# A pipe whose only reader is gone before the program starts.
+mkfifo pipe
+exec 5<>pipe
+exec 4>pipe 5>&-
+check_into 4 'a closed pipe: a difference' 1 ours.txt theirs.txt
+check_into 4 'a closed pipe: none' 2 ours.txt reordered.txt
+check_into 4 'a closed pipe: none, json' 2 --format json ours.txt reordered.txt
+check_into 4 'a closed pipe: --help' 2 --help
+check_into 4 'a closed pipe: --quiet' 0 --quiet ours.txt reordered.txt
+exec 4>&-
 
 # Output that cannot be written.
-status=0
-"$program" ours.txt theirs.txt >/dev/full 2>got-errors || status=$?
-same 'a full disk' <(echo 'reconcile: standard output: No space left on device (os error 28)'; echo 2) <(cat got-errors; echo "$status")
+exec 4>/dev/full
+echo 'reconcile: standard output: No space left on device (os error 28)' >errors
+check_into 4 'a full disk: a difference' 2 ours.txt theirs.txt
+check_into 4 'a full disk: none' 2 ours.txt reordered.txt
+check_into 4 'a full disk: json' 2 --format json ours.txt theirs.txt
+check_into 4 'a full disk: tsv' 2 --format tsv --stats ours.txt theirs.txt
+check_into 4 'a full disk: --help' 2 --help
+check_into 4 'a full disk: --version' 2 --version
+rm errors
+check_into 4 'a full disk, and nothing to write' 0 --quiet ours.txt reordered.txt
+exec 4>&-
 status=0
 "$program" good.txt missing.txt >got 2>/dev/full || status=$?
 same 'errors that cannot be written' <(echo 2) <(cat got; echo "$status")
-passed=$((passed + 2))
+status=0
+"$program" --format tsv --stats ours.txt reordered.txt >got 2>/dev/full || status=$?
+same 'counts that cannot be written' <(printf 'side\ttime\tid\n2\n') <(cat got; echo "$status")
+
+# On a terminal, a line on standard error says how far the work has come, unless only the status is wanted.
+on_terminal() { script -qec "$(printf '%q ' "$program" "$@") >got" /dev/null </dev/null | tr '\r' '\n' | sed 's/ *$//; /^$/d'; }
+printf 'reading records\nopening\nround 1: 5 bytes exchanged, 0 records reported\nround 1: 10 bytes exchanged, 0 records reported\n' >want
+same 'progress on a terminal' want <(on_terminal empty.txt empty.txt)
+same 'an error on a terminal' <(printf 'reading records\nmissing.txt: No such file or directory (os error 2)\n') <(on_terminal empty.txt missing.txt)
+same 'no progress with --quiet' /dev/null <(on_terminal -q empty.txt empty.txt)
 
 echo "ok: $passed checks of reconcile"

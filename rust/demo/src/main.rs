@@ -1,79 +1,74 @@
 //! `reconcile OURS THEIRS` tells which records each of two files lacks, by a session between an opener that holds the
 //! first and a responder that holds the second. `reconcile --help` has the file format and the options.
 mod exchange;
+mod failure;
 mod options;
 mod progress;
 mod records;
 mod report;
+mod source;
 
 use exchange::{exchange, Exchanged};
-use options::{Command, HELP, USAGE};
+use failure::{Failure, Status};
+use options::{Command, Request, HELP, VERSION};
 use progress::{stderr_is_terminal, Progress};
 use recon::{Cut, Opener, Refusal, Responder};
-use records::{BadFile, Records};
+use records::Records;
+use report::{Difference, Report};
+use source::Source;
 use std::env;
-use std::fmt;
 use std::io::{self, BufWriter, Write};
-use std::path::{Path, PathBuf};
 use std::process::ExitCode;
 
-/// Why the program could not do its work.
-#[derive(Debug)]
-enum Failure {
-    Usage(String),
-    File(PathBuf, BadFile),
-    Refused(Refusal),
-    Output(io::Error),
-}
-
-impl Failure {
-    fn exit_status(&self) -> u8 {
-        match self {
-            Failure::Refused(_) => 1,
-            Failure::Usage(_) | Failure::File(..) | Failure::Output(_) => 2,
-        }
-    }
-}
-
-impl fmt::Display for Failure {
-    fn fmt(&self, f: &mut fmt::Formatter<'_>) -> fmt::Result {
-        match self {
-            Failure::Usage(text) => write!(f, "reconcile: {text}\n{USAGE}"),
-            Failure::File(path, BadFile::System(error)) => write!(f, "{}: {error}", path.display()),
-            Failure::File(path, BadFile::Line { number, fault }) => write!(f, "{}:{number}: {fault}", path.display()),
-            Failure::Refused(refusal) => write!(f, "reconcile: {refusal}"),
-            Failure::Output(error) => write!(f, "reconcile: standard output: {error}"),
-        }
-    }
-}
-
 fn main() -> ExitCode {
-    match run() {
-        Ok(()) => ExitCode::SUCCESS,
-        Err(failure) => {
-            // eprintln! would panic where standard error cannot be written.
-            let _ = writeln!(io::stderr(), "{failure}");
-            ExitCode::from(failure.exit_status())
-        }
+    let status = run().unwrap_or_else(|failure| {
+        failure.tell();
+        Status::Trouble
+    });
+    ExitCode::from(status as u8)
+}
+
+fn run() -> Result<Status, Failure> {
+    match options::parse(env::args_os().skip(1)).map_err(Failure::Usage)? {
+        Command::Help => print(|out| out.write_all(HELP.as_bytes()))?,
+        Command::Version => print(|out| out.write_all(VERSION.as_bytes()))?,
+        Command::Reconcile(request) => return reconcile(&request),
+    }
+    Ok(Status::Same)
+}
+
+/// Reads both files, runs a session between them and reports what it found.
+fn reconcile(request: &Request) -> Result<Status, Failure> {
+    let options = &request.options;
+    let mut progress = Progress::new(io::stderr(), stderr_is_terminal() && !options.quiet);
+    progress.show("reading records");
+    let (ours, theirs) = read_both(&request.ours, &request.theirs)?;
+    progress.show("opening");
+    let (opener, exchanged) = session(&ours, &theirs, options.cut, &mut progress).map_err(Failure::Refused)?;
+    progress.clear();
+    let difference = Difference {
+        ours_only: opener.ours_only().map(|(time, id)| (time, &id[..])).collect(),
+        theirs_only: opener.theirs_only().map(|id| &id[..]).collect(),
+    };
+    report(request, &difference, exchanged)
+}
+
+/// Reads both files. An id under two times, of which the promise of a session does not speak, is seen here alone.
+fn read_both(ours: &Source, theirs: &Source) -> Result<(Records, Records), Failure> {
+    let (our_records, their_records) = (read(ours)?, read(theirs)?);
+    match records::two_times(&our_records, &their_records) {
+        None => Ok((our_records, their_records)),
+        Some(lines) => Err(Failure::TwoTimes {
+            ours: ours.clone(),
+            theirs: theirs.clone(),
+            lines,
+        }),
     }
 }
 
-fn run() -> Result<(), Failure> {
-    match options::parse(env::args_os().skip(1)).map_err(Failure::Usage)? {
-        Command::Help => print(|to| to.write_all(HELP.as_bytes())),
-        Command::Reconcile { ours, theirs, cut } => {
-            let mut progress = Progress::new(io::stderr(), stderr_is_terminal());
-            progress.show("reading records");
-            let records = read_both(&ours, &theirs);
-            progress.clear();
-            let (our_records, their_records) = records?;
-            progress.show("opening");
-            let outcome = session(&our_records, &their_records, cut, &mut progress);
-            progress.clear();
-            let (opener, exchanged) = outcome.map_err(Failure::Refused)?;
-            print(|to| report::write(to, &opener, &exchanged, &ours, &theirs))
-        }
-    }
+fn read(source: &Source) -> Result<Records, Failure> {
+    let records = source.open().map_err(records::BadFile::System).and_then(records::read);
+    records.map_err(|fault| Failure::File(source.clone(), fault))
 }
 
 /// Runs a session to its end: the opener afterwards, and what went over.
@@ -91,14 +86,6 @@ fn session<'a>(
     Ok((opener, exchanged))
 }
 
-fn read_both(ours: &Path, theirs: &Path) -> Result<(Records, Records), Failure> {
-    Ok((read(ours)?, read(theirs)?))
-}
-
-fn read(path: &Path) -> Result<Records, Failure> {
-    records::read_file(path).map_err(|fault| Failure::File(path.to_path_buf(), fault))
-}
-
 fn describe(exchanged: &Exchanged, opener: &Opener<'_>) -> String {
     let bytes = exchanged.queries.bytes + exchanged.replies.bytes;
     let session = opener.session();
@@ -109,22 +96,32 @@ fn describe(exchanged: &Exchanged, opener: &Opener<'_>) -> String {
     )
 }
 
+/// Writes the report, unless none is wanted. A reader that closes it early has seen that something is missing, but that
+/// nothing is missing counts only if it was told.
+fn report(request: &Request, difference: &Difference<'_>, exchanged: Exchanged) -> Result<Status, Failure> {
+    let options = &request.options;
+    let status = if difference.is_empty() {
+        Status::Same
+    } else {
+        Status::Differ
+    };
+    if options.quiet {
+        return Ok(status);
+    }
+    let report = Report {
+        ours: &request.ours,
+        theirs: &request.theirs,
+        difference,
+        stats: Some(exchanged).filter(|_| options.stats),
+    };
+    match print(|out| report.write(options.format, out, &mut io::stderr())) {
+        Err(failure) if failure.is_closed_pipe() && status == Status::Differ => Ok(status),
+        printed => printed.map(|()| status),
+    }
+}
+
 /// Writes to standard output; println! would panic where it cannot be written.
 fn print(text: impl FnOnce(&mut BufWriter<io::StdoutLock<'_>>) -> io::Result<()>) -> Result<(), Failure> {
     let mut out = BufWriter::new(io::stdout().lock());
     text(&mut out).and_then(|()| out.flush()).map_err(Failure::Output)
-}
-
-#[cfg(test)]
-mod tests {
-    use super::*;
-
-    #[test]
-    fn a_refusal_is_told_by_its_message_and_status_1() {
-        for &refusal in Refusal::ALL {
-            let failure = Failure::Refused(refusal);
-            assert_eq!(failure.exit_status(), 1);
-            assert_eq!(failure.to_string(), format!("reconcile: {refusal}"));
-        }
-    }
 }

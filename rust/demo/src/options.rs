@@ -1,90 +1,200 @@
 //! The command line.
-use recon::Cut;
+use crate::report::Format;
+use crate::source::Source;
+use recon::{Cut, MAX_LIMIT, MAX_PARTS, MIN_PARTS};
 use std::ffi::OsString;
-use std::path::PathBuf;
 
-pub const USAGE: &str = "usage: reconcile [--parts B] [--limit T] OURS THEIRS
+pub const USAGE: &str = "usage: reconcile [OPTION..] OURS THEIRS
        reconcile --help";
 
-pub const HELP: &str = "usage: reconcile [--parts B] [--limit T] OURS THEIRS
+pub const VERSION: &str = concat!("reconcile ", env!("CARGO_PKG_VERSION"), "\n");
+
+pub const HELP: &str = "usage: reconcile [OPTION..] OURS THEIRS
 
 Tells which records each of two files lacks. The end that holds OURS opens a
 session, the end that holds THEIRS answers, and nothing passes between them but
-messages of the Negentropy Protocol V1.
+messages of the Negentropy Protocol V1. One of the two may be -, for standard
+input.
 
-  --parts B   how many parts a differing range is cut into, 2 to 64 (default 16)
-  --limit T   how many records a range may have to be listed instead, B to 4096
-              (default 64)
-  --help      print this text
+  -q, --quiet     print nothing but errors: the exit status tells
+  --stats         also print the rounds, and the messages and bytes each way
+  --format F      text (the default), tsv or json
+  --parts B       how many parts a differing range is cut into, 2 to 64
+                  (default 16)
+  --limit T       how many records a range may have to be listed instead,
+                  B to 4096 (default 64)
+  -h, --help      print this text
+  -V, --version   print the version
+  --              what follows is not an option
+
+Options may stand before and behind the files, and with = before their values,
+as in --parts=8. If an option is given twice, the last one counts.
 
 A record file has one record in each line: its time (decimal, at most 2^64 - 2),
-one space, and its id (64 hex digits). Empty lines and lines that begin with #
-are skipped. The records may stand in any order, at most 1048576 of them. None
-may stand twice, and no id may have two times.
+one space, and its id (64 hex digits). Empty lines, lines that begin with # and
+a byte-order mark at the start are skipped. The records may stand in any order,
+at most 1048576 of them. None may stand twice in a file, and an id must have the
+same time wherever it stands, in both files.
 
-The output has a line for each record that one of the files lacks, then the
-rounds, the messages and bytes in each direction, and the outcome:
-
-  ours only    TIME ID
-  theirs only  ID
+text  a line for each record that one of the files lacks, with --stats the
+      rounds, messages and bytes, and a last line that says how many there are:
+        ours only    TIME ID
+        theirs only  - ID
+tsv   a line with the names of the fields, side, time and id, and a line for
+      each record, with tabs between the fields; with --stats a line for each
+      count on standard error: its name, a tab and the number
+json  an object with the lists ours_only and theirs_only of objects with time
+      and id, one record to a line; with --stats also the object stats
 
 Messages list ids without their times, so the end that holds OURS does not know
-the times of records that only THEIRS has. An id must have the same time in both
-files, which neither end can check: otherwise it may be reported as missing in
-both, or not be reported. Ranges with equal fingerprints (16 bytes of SHA-256)
-are taken to hold the same ids.
+the times of records that only THEIRS has: - stands for them, in JSON null.
+Ranges with equal fingerprints (16 bytes of SHA-256) are taken to hold the same
+ids.
 
-The exit status is 0 if the files were reconciled, whether or not anything is
-missing; 1 if a call was refused; 2 if a file, an option or the output failed.
+The exit status is 0 if nothing is missing in either file, 1 if something is,
+and 2 in trouble: an argument, a file or the output was at fault, or a call was
+refused. A reader that closes the output early, as head does, is not an error:
+the status is 1 if something is missing. If nothing is, it is 2, without a
+message, because the output did not say so.
 ";
 
 /// What the command line asks for.
 #[derive(Debug, PartialEq, Eq)]
 pub enum Command {
     Help,
-    Reconcile { ours: PathBuf, theirs: PathBuf, cut: Cut },
+    Version,
+    Reconcile(Request),
+}
+
+#[derive(Clone, Debug, PartialEq, Eq)]
+pub struct Request {
+    pub ours: Source,
+    pub theirs: Source,
+    pub options: Options,
+}
+
+#[derive(Clone, Copy, Debug, Default, PartialEq, Eq)]
+pub struct Options {
+    pub cut: Cut,
+    pub format: Format,
+    pub stats: bool,
+    pub quiet: bool,
 }
 
 /// Reads the arguments behind the program's name; an error says what is wrong with them.
 pub fn parse(mut arguments: impl Iterator<Item = OsString>) -> Result<Command, String> {
-    let mut cut = Cut { parts: 16, limit: 64 };
-    let mut files = Vec::new();
+    let mut options = Options::default();
+    let mut sources = Vec::new();
     while let Some(argument) = arguments.next() {
-        match argument.to_str() {
-            Some("--help") => return Ok(Command::Help),
-            Some("--parts") => cut.parts = number("--parts", arguments.next())?,
-            Some("--limit") => cut.limit = number("--limit", arguments.next())?,
-            Some(option) if option.starts_with('-') => return Err(format!("unknown option {option:?}")),
-            _ => files.push(PathBuf::from(argument)),
+        let text = argument.to_string_lossy().into_owned();
+        if text == "--" {
+            sources.extend(arguments.by_ref().map(Source::named));
+        } else if text.starts_with('-') && text != "-" {
+            if let Some(command) = options.read(Given::new(&text, &mut arguments))? {
+                return Ok(command);
+            }
+        } else {
+            sources.push(Source::named(argument));
         }
     }
-    check(cut)?;
-    match <[PathBuf; 2]>::try_from(files) {
-        Ok([ours, theirs]) => Ok(Command::Reconcile { ours, theirs, cut }),
-        Err(files) => Err(format!("two files are needed, not {}", files.len())),
+    check(options.cut)?;
+    let [ours, theirs] =
+        <[Source; 2]>::try_from(sources).map_err(|sources| format!("two files are needed, not {}", sources.len()))?;
+    if ours == Source::StandardInput && theirs == Source::StandardInput {
+        return Err("only one of the files can be - (standard input)".to_string());
+    }
+    Ok(Command::Reconcile(Request { ours, theirs, options }))
+}
+
+impl Options {
+    /// Reads one option. Those that ask for something else than to reconcile are answered at once.
+    fn read(&mut self, given: Given<'_, impl Iterator<Item = OsString>>) -> Result<Option<Command>, String> {
+        match given.name {
+            "-h" | "--help" => return given.flag().map(|()| Some(Command::Help)),
+            "-V" | "--version" => return given.flag().map(|()| Some(Command::Version)),
+            "-q" | "--quiet" => {
+                given.flag()?;
+                self.quiet = true;
+            }
+            "--stats" => {
+                given.flag()?;
+                self.stats = true;
+            }
+            "--format" => self.format = given.format()?,
+            "--parts" => self.cut.parts = given.number()?,
+            "--limit" => self.cut.limit = given.number()?,
+            name => return Err(format!("unknown option {name:?}")),
+        }
+        Ok(None)
     }
 }
 
-fn number(option: &str, value: Option<OsString>) -> Result<usize, String> {
-    let value = value.ok_or(format!("{option} needs a number"))?;
-    let digits = value
-        .to_str()
-        .filter(|text| text.bytes().all(|byte| byte.is_ascii_digit()));
-    digits
-        .and_then(|digits| digits.parse().ok())
-        .ok_or(format!("{option} needs a number, not {value:?}"))
+/// An option as it is given: its name, the value joined to it by `=`, and the arguments behind it.
+struct Given<'a, I> {
+    name: &'a str,
+    joined: Option<&'a str>,
+    rest: &'a mut I,
+}
+
+impl<'a, I: Iterator<Item = OsString>> Given<'a, I> {
+    fn new(text: &'a str, rest: &'a mut I) -> Given<'a, I> {
+        match text.split_once('=') {
+            Some((name, value)) if name.starts_with("--") => Given {
+                name,
+                joined: Some(value),
+                rest,
+            },
+            _ => Given {
+                name: text,
+                joined: None,
+                rest,
+            },
+        }
+    }
+
+    /// Refuses a value joined to an option that has none.
+    fn flag(self) -> Result<(), String> {
+        match self.joined {
+            None => Ok(()),
+            Some(_) => Err(format!("{} takes no value", self.name)),
+        }
+    }
+
+    /// The value, joined or the next argument; `wanted` is what it must be.
+    fn value(self, wanted: &str) -> Result<String, String> {
+        let next = match self.joined {
+            Some(value) => Some(value.to_string()),
+            None => self.rest.next().map(|value| value.to_string_lossy().into_owned()),
+        };
+        next.ok_or(format!("{} needs {wanted}", self.name))
+    }
+
+    fn number(self) -> Result<usize, String> {
+        let name = self.name;
+        let value = self.value("a number")?;
+        let digits = Some(&value).filter(|text| text.bytes().all(|byte| byte.is_ascii_digit()));
+        digits
+            .and_then(|digits| digits.parse().ok())
+            .ok_or(format!("{name} needs a number, not {value:?}"))
+    }
+
+    fn format(self) -> Result<Format, String> {
+        let name = self.name;
+        let value = self.value(Format::NAMES)?;
+        Format::named(&value).ok_or(format!("{name} needs {}, not {value:?}", Format::NAMES))
+    }
 }
 
 /// The limits are those of the library's calls. They are checked here too, before a file is read, so that an option out
 /// of its limits is told like other wrong options.
 fn check(cut: Cut) -> Result<(), String> {
-    if !(2..=64).contains(&cut.parts) {
-        return Err(format!("--parts must be 2 to 64, not {}", cut.parts));
+    let Cut { parts, limit } = cut;
+    if !(MIN_PARTS..=MAX_PARTS).contains(&parts) {
+        return Err(format!("--parts must be {MIN_PARTS} to {MAX_PARTS}, not {parts}"));
     }
-    if !(cut.parts..=4096).contains(&cut.limit) {
+    if !(parts..=MAX_LIMIT).contains(&limit) {
         return Err(format!(
-            "--limit must be {} (the parts) to 4096, not {}",
-            cut.parts, cut.limit
+            "--limit must be {parts} (the parts) to {MAX_LIMIT}, not {limit}"
         ));
     }
     Ok(())
@@ -98,11 +208,22 @@ mod tests {
         parse(text.split_whitespace().map(OsString::from))
     }
 
-    fn cut(text: &str) -> Cut {
+    /// The options of a command line whose files are `a` and `b`.
+    fn options(text: &str) -> Options {
         match parsed(text) {
-            Ok(Command::Reconcile { ours, theirs, cut }) if ours.as_os_str() == "a" && theirs.as_os_str() == "b" => cut,
+            Ok(Command::Reconcile(request)) if (&request.ours, &request.theirs) == (&file("a"), &file("b")) => {
+                request.options
+            }
             other => panic!("{other:?}"),
         }
+    }
+
+    fn cut(text: &str) -> Cut {
+        options(text).cut
+    }
+
+    fn file(name: &str) -> Source {
+        Source::File(name.into())
     }
 
     #[test]
@@ -110,7 +231,74 @@ mod tests {
         assert_eq!(cut("a b"), Cut { parts: 16, limit: 64 });
         assert_eq!(cut("--parts 2 a --limit 4096 b"), Cut { parts: 2, limit: 4096 });
         assert_eq!(cut("a b --limit 64 --parts 64"), Cut { parts: 64, limit: 64 });
-        assert_eq!(parsed("a --help --parts"), Ok(Command::Help));
+        assert_eq!(options("a b"), Options::default());
+        let all = Options {
+            format: Format::Json,
+            stats: true,
+            quiet: true,
+            ..Options::default()
+        };
+        assert_eq!(options("--quiet --stats a --format json b"), all);
+        assert_eq!(options("a b -q --format=json --stats"), all);
+    }
+
+    #[test]
+    fn a_value_is_joined_or_follows() {
+        assert_eq!(cut("--parts=8 --limit=9 a b"), cut("--parts 8 --limit 9 a b"));
+        for (name, format) in [("text", Format::Text), ("tsv", Format::Tsv), ("json", Format::Json)] {
+            assert_eq!(options(&format!("a b --format={name}")).format, format);
+            assert_eq!(options(&format!("a b --format {name}")).format, format);
+        }
+    }
+
+    #[test]
+    fn the_last_of_an_option_counts() {
+        assert_eq!(
+            cut("--parts 1 --parts=8 a b --limit 9 --limit 10"),
+            Cut { parts: 8, limit: 10 }
+        );
+        assert_eq!(options("--format json a b --format tsv").format, Format::Tsv);
+        assert_eq!(options("-q -q --quiet a b"), options("-q a b"));
+    }
+
+    #[test]
+    fn help_and_version_are_answered_where_they_are_met() {
+        for text in ["-h", "--help", "a --help --parts", "--help --version"] {
+            assert_eq!(parsed(text), Ok(Command::Help), "{text}");
+        }
+        for text in ["-V", "--version", "a b c -V", "--version --help"] {
+            assert_eq!(parsed(text), Ok(Command::Version), "{text}");
+        }
+        assert_eq!(VERSION, "reconcile 0.1.0\n");
+    }
+
+    #[test]
+    fn two_dashes_end_the_options() {
+        let request = |ours, theirs| {
+            Ok(Command::Reconcile(Request {
+                ours: file(ours),
+                theirs: file(theirs),
+                options: Options::default(),
+            }))
+        };
+        assert_eq!(parsed("-- a b"), request("a", "b"));
+        assert_eq!(parsed("-- --help -q"), request("--help", "-q"));
+        assert_eq!(parsed("a -- --"), request("a", "--"));
+    }
+
+    #[test]
+    fn one_file_may_be_standard_input() {
+        for text in ["- a", "a -", "-- a -"] {
+            match parsed(text) {
+                Ok(Command::Reconcile(Request { ours, theirs, .. })) => {
+                    assert!(
+                        (ours == Source::StandardInput) != (theirs == Source::StandardInput),
+                        "{text}"
+                    );
+                }
+                other => panic!("{text}: {other:?}"),
+            }
+        }
     }
 
     #[test]
@@ -119,10 +307,20 @@ mod tests {
             ("", "two files are needed, not 0"),
             ("a", "two files are needed, not 1"),
             ("a b c", "two files are needed, not 3"),
+            ("a -- b c", "two files are needed, not 3"),
+            ("- -", "only one of the files can be - (standard input)"),
             ("a b --part 2", "unknown option \"--part\""),
+            ("a b --part=2", "unknown option \"--part\""),
+            ("a b -qq", "unknown option \"-qq\""),
+            ("a b -q=1", "unknown option \"-q=1\""),
+            ("a b --quiet=1", "--quiet takes no value"),
+            ("--help=x", "--help takes no value"),
             ("a b --parts", "--parts needs a number"),
             ("--limit a b", "--limit needs a number, not \"a\""),
+            ("a b --limit=", "--limit needs a number, not \"\""),
             ("a b --parts -2", "--parts needs a number, not \"-2\""),
+            ("a b --parts=8=8", "--parts needs a number, not \"8=8\""),
+            ("a b --parts x --parts 2", "--parts needs a number, not \"x\""),
             (
                 "a b --parts 99999999999999999999",
                 "--parts needs a number, not \"99999999999999999999\"",
@@ -131,8 +329,18 @@ mod tests {
             ("a b --parts 65 --limit 65", "--parts must be 2 to 64, not 65"),
             ("a b --limit 15", "--limit must be 16 (the parts) to 4096, not 15"),
             ("a b --limit 4097", "--limit must be 16 (the parts) to 4096, not 4097"),
+            ("a b --format", "--format needs text, tsv or json"),
+            ("a b --format xml", "--format needs text, tsv or json, not \"xml\""),
+            ("a b --format=JSON", "--format needs text, tsv or json, not \"JSON\""),
         ] {
             assert_eq!(parsed(text), Err(message.to_string()), "{text}");
+        }
+    }
+
+    #[test]
+    fn help_fits_a_terminal() {
+        for line in HELP.lines().chain(USAGE.lines()) {
+            assert!(line.len() <= 80 && line.is_ascii() && line.trim_end() == line, "{line}");
         }
     }
 }

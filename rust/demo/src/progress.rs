@@ -36,6 +36,13 @@ impl<W: Write> Progress<W> {
     }
 }
 
+/// Whatever ends the work early leaves the line empty for what it has to say.
+impl<W: Write> Drop for Progress<W> {
+    fn drop(&mut self) {
+        self.clear();
+    }
+}
+
 extern "C" {
     fn isatty(descriptor: c_int) -> c_int;
 }
@@ -59,6 +66,13 @@ mod tests {
         progress.clear();
         progress.clear();
         assert_eq!(progress.to, b"\rlong\rab  \rc \r \r");
+    }
+
+    #[test]
+    fn the_line_is_left_empty_at_the_end() {
+        let mut written = Vec::new();
+        Progress::new(&mut written, true).show("ab");
+        assert_eq!(written, b"\rab\r  \r");
     }
 
     #[test]

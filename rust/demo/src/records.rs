@@ -1,13 +1,10 @@
 //! Record files: a record in each line, `TIME ID`. The records of a file become a table, sorted by time and then by id.
-use recon::{Table, MAX_ITEMS};
+use recon::{Table, ID_BYTES, MAX_ITEMS};
 use std::collections::hash_map::{Entry, HashMap};
 use std::fmt;
-use std::fs::File;
-use std::io::{self, BufRead, BufReader, ErrorKind};
-use std::path::Path;
+use std::io::{self, BufRead, ErrorKind, Read};
 
-pub const ID_BYTES: usize = 32;
-pub type Id = [u8; ID_BYTES];
+type Id = [u8; ID_BYTES];
 
 /// The largest time that a record can have. In messages the next one stands for infinity.
 const LAST_TIME: u64 = u64::MAX - 1;
@@ -15,25 +12,37 @@ const LAST_TIME: u64 = u64::MAX - 1;
 /// No record needs a longer line. Longer ones are refused, so that a file without line ends does not fill the memory.
 const LONGEST_LINE: usize = 1000;
 
-/// The records of one end, in table order.
+/// The bytes that some editors put at the start of a text, to say that it is UTF-8.
+const BYTE_ORDER_MARK: &[u8] = b"\xef\xbb\xbf";
+
+/// The records of one end, in table order, each with the line that it stands in.
 #[derive(Debug, Default, PartialEq, Eq)]
 pub struct Records {
     times: Vec<u64>,
     ids: Vec<u8>,
+    lines: Vec<usize>,
 }
 
 impl Records {
-    /// Sorts records by time and then by id.
-    pub fn sorted(mut records: Vec<(u64, Id)>) -> Records {
+    /// Sorts records, each with its line, by time and then by id.
+    fn of_lines(mut records: Vec<(u64, Id, usize)>) -> Records {
         records.sort_unstable();
         Records {
-            times: records.iter().map(|(time, _)| *time).collect(),
-            ids: records.iter().flat_map(|(_, id)| *id).collect(),
+            times: records.iter().map(|(time, ..)| *time).collect(),
+            ids: records.iter().flat_map(|(_, id, _)| *id).collect(),
+            lines: records.iter().map(|(.., line)| *line).collect(),
         }
     }
 
+    /// Sorts records by time and then by id. They stand in lines in the order given.
     #[cfg(test)]
-    pub fn len(&self) -> usize {
+    fn sorted(records: Vec<(u64, Id)>) -> Records {
+        let numbered = records.iter().zip(1..).map(|(&(time, id), line)| (time, id, line));
+        Records::of_lines(numbered.collect())
+    }
+
+    #[cfg(test)]
+    fn len(&self) -> usize {
         self.times.len()
     }
 
@@ -44,10 +53,37 @@ impl Records {
         }
     }
 
-    #[cfg(test)]
     pub fn iter(&self) -> impl Iterator<Item = (u64, &[u8])> {
         self.times.iter().copied().zip(self.ids.chunks_exact(ID_BYTES))
     }
+
+    /// The ids, with their lines, of the records that `others` has not as they are, time and id.
+    fn without<'a>(&'a self, others: &'a Records) -> impl Iterator<Item = (&'a [u8], usize)> {
+        let mut others = others.iter().peekable();
+        let lines = self.lines.iter().copied();
+        self.iter().zip(lines).filter_map(move |(record, line)| {
+            while others.next_if(|other| *other < record).is_some() {}
+            (others.peek() != Some(&record)).then_some((record.1, line))
+        })
+    }
+}
+
+/// The lines of two files that have one id under two times.
+#[derive(Clone, Copy, Debug, PartialEq, Eq, PartialOrd, Ord)]
+pub struct TwoTimes {
+    pub theirs: usize,
+    pub ours: usize,
+}
+
+/// Finds the first line of `theirs` whose id has another time in `ours`. Such a record is not in the other file as it
+/// is, so where the files are nearly the same few are looked up.
+pub fn two_times(ours: &Records, theirs: &Records) -> Option<TwoTimes> {
+    let our_lines: HashMap<&[u8], usize> = ours.without(theirs).collect();
+    let both = theirs.without(ours).filter_map(|(id, line)| {
+        let ours = *our_lines.get(id)?;
+        Some(TwoTimes { theirs: line, ours })
+    });
+    both.min()
 }
 
 /// Why a record file cannot be used.
@@ -60,6 +96,7 @@ pub enum BadFile {
 /// What is wrong with a line.
 #[derive(Clone, Copy, Debug, PartialEq, Eq)]
 pub enum Fault {
+    Utf16,
     TooLong,
     NotTwoFields,
     TimeNotNumber,
@@ -73,6 +110,7 @@ pub enum Fault {
 impl fmt::Display for Fault {
     fn fmt(&self, f: &mut fmt::Formatter<'_>) -> fmt::Result {
         match self {
+            Fault::Utf16 => write!(f, "the text is UTF-16; a record file is ASCII or UTF-8"),
             Fault::TooLong => write!(f, "the line is longer than {LONGEST_LINE} bytes"),
             Fault::NotTwoFields => write!(f, "not a time and an id with one space between them"),
             Fault::TimeNotNumber => write!(f, "the time is not a decimal number"),
@@ -85,14 +123,9 @@ impl fmt::Display for Fault {
     }
 }
 
-/// Reads a record file.
-pub fn read_file(path: &Path) -> Result<Records, BadFile> {
-    let file = File::open(path).map_err(BadFile::System)?;
-    read(BufReader::new(file))
-}
-
 /// Reads the lines of a record file up to the first that is at fault.
-pub fn read(mut reader: impl BufRead) -> Result<Records, BadFile> {
+pub fn read(reader: impl BufRead) -> Result<Records, BadFile> {
+    let mut reader = skip_mark(reader)?;
     let mut seen = HashMap::new();
     let mut line = Vec::new();
     let mut number = 0;
@@ -105,9 +138,26 @@ pub fn read(mut reader: impl BufRead) -> Result<Records, BadFile> {
         };
         added.map_err(|fault| BadFile::Line { number, fault })?;
     }
-    Ok(Records::sorted(
-        seen.into_iter().map(|(id, (time, _))| (time, id)).collect(),
-    ))
+    let records = seen.into_iter().map(|(id, (time, line))| (time, id, line));
+    Ok(Records::of_lines(records.collect()))
+}
+
+/// Skips a byte-order mark at the start of a file. That of UTF-16 is refused: in its lines nothing else would be right.
+fn skip_mark(mut reader: impl BufRead) -> Result<impl BufRead, BadFile> {
+    let mut start = Vec::new();
+    let length = BYTE_ORDER_MARK.len() as u64;
+    let read = reader.by_ref().take(length).read_to_end(&mut start);
+    read.map_err(BadFile::System)?;
+    if start.starts_with(b"\xff\xfe") || start.starts_with(b"\xfe\xff") {
+        return Err(BadFile::Line {
+            number: 1,
+            fault: Fault::Utf16,
+        });
+    }
+    if start == BYTE_ORDER_MARK {
+        start.clear();
+    }
+    Ok(io::Cursor::new(start).chain(reader))
 }
 
 /// Adds a record to those seen so far, which are known by id, with their time and line.
@@ -208,6 +258,7 @@ fn hex_digit(digit: u8) -> Result<u8, Fault> {
 #[cfg(test)]
 mod tests {
     use super::*;
+    use std::io::BufReader;
 
     const A: &str = "00000000000000000000000000000000000000000000000000000000000000aA";
     const B: &str = "ff00000000000000000000000000000000000000000000000000000000000000";
@@ -337,6 +388,86 @@ mod tests {
         for size in 1..text.len() {
             assert_eq!(read(BufReader::with_capacity(size, text.as_bytes())).unwrap().len(), 2);
         }
+    }
+
+    #[test]
+    fn a_byte_order_mark_is_skipped_at_the_start_alone() {
+        let plain = format!("1 {A}\n2 {B}\n");
+        let marked = format!("\u{feff}{plain}");
+        for size in 1..marked.len() {
+            let records = read(BufReader::with_capacity(size, marked.as_bytes())).unwrap();
+            assert_eq!(records, read(plain.as_bytes()).unwrap());
+        }
+        assert_eq!(read("\u{feff}".as_bytes()).unwrap(), Records::default());
+        let comment = "#".repeat(2 * LONGEST_LINE);
+        assert_eq!(read(format!("\u{feff}{comment}\n{plain}").as_bytes()).unwrap().len(), 2);
+        assert_eq!(fault(format!("\u{feff}{marked}")), (1, Fault::TimeNotNumber));
+        assert_eq!(fault(format!("{plain}\u{feff}3 {A}")), (3, Fault::TimeNotNumber));
+        assert_eq!(fault(&marked.as_bytes()[1..]), (1, Fault::TimeNotNumber));
+    }
+
+    #[test]
+    fn utf16_is_told() {
+        let text = format!("\u{feff}1 {A}\n");
+        let little: Vec<u8> = text.encode_utf16().flat_map(u16::to_le_bytes).collect();
+        let big: Vec<u8> = text.encode_utf16().flat_map(u16::to_be_bytes).collect();
+        assert_eq!(fault(little), (1, Fault::Utf16));
+        assert_eq!(fault(big), (1, Fault::Utf16));
+    }
+
+    fn checked(ours: &str, theirs: &str) -> Option<(usize, usize)> {
+        let (ours, theirs) = (read(ours.as_bytes()).unwrap(), read(theirs.as_bytes()).unwrap());
+        two_times(&ours, &theirs).map(|lines| (lines.ours, lines.theirs))
+    }
+
+    #[test]
+    fn an_id_has_one_time_in_both_files() {
+        let ours = format!("# ours\n1 {A}\n2 {B}\n");
+        assert_eq!(checked(&ours, &ours), None);
+        assert_eq!(checked(&ours, ""), None);
+        assert_eq!(checked("", &ours), None);
+        assert_eq!(checked(&ours, &format!("2 {B}\n01 {}", A.to_lowercase())), None);
+        assert_eq!(checked(&ours, &format!("2 {A}")), Some((2, 1)));
+        assert_eq!(checked(&ours, &format!("1 {A}\n\n3 {B}")), Some((3, 3)));
+        // Of several, the first line of the second file counts, whatever the order of times and ids.
+        assert_eq!(checked(&ours, &format!("9 {B}\n0 {A}")), Some((3, 1)));
+        assert_eq!(checked(&ours, &format!("\n9 {A}\n0 {B}")), Some((2, 2)));
+    }
+
+    /// Compares the search with one record by record, on files of few ids and times, so that many are the same.
+    #[test]
+    fn two_times_are_found_wherever_they_are() {
+        let mut state = 1_u64;
+        let mut below = |bound: u64| {
+            state = state.wrapping_mul(6_364_136_223_846_793_005).wrapping_add(1);
+            (state >> 33) % bound
+        };
+        let mut found = 0;
+        for _ in 0..2000 {
+            let mut some = || {
+                let mut ids: Vec<u8> = (0..12).filter(|_| below(3) > 0).collect();
+                ids.sort_by_key(|_| below(100));
+                let records = ids
+                    .iter()
+                    .map(|&last| (u64::from(last / 4) + below(20) / 19, id(0, last)));
+                records.collect::<Vec<_>>()
+            };
+            let (ours, theirs) = (some(), some());
+            let line_in_ours = |&(time, id): &(u64, Id)| ours.iter().position(|&(t, i)| i == id && t != time);
+            let expected = theirs.iter().enumerate().find_map(|(place, record)| {
+                let ours = line_in_ours(record)? + 1;
+                Some(TwoTimes {
+                    theirs: place + 1,
+                    ours,
+                })
+            });
+            found += usize::from(expected.is_some());
+            assert_eq!(
+                two_times(&Records::sorted(ours.clone()), &Records::sorted(theirs.clone())),
+                expected
+            );
+        }
+        assert!((500..1500).contains(&found), "{found}");
     }
 
     #[test]

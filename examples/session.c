@@ -58,9 +58,9 @@ static void stop(const char *call, uint64_t refusal) {
     exit(2);
 }
 
-/* The records numbered 0 to 999 except `first` and each `step` behind it. A record's number settles its time and its id. */
+/* The records numbered 0 to 1,999 except `first` and each `step` behind it. A record's number settles its time and its id. */
 static table records_except(uint64_t first, uint64_t step) {
-    const size_t numbers = 1000;
+    const size_t numbers = 2000;
     table t = {0, (uint64_t *)resized(NULL, numbers * sizeof(uint64_t)), (uint8_t *)resized(NULL, numbers * RECON_ID_BYTES)};
     for (uint64_t number = 0; number < numbers; number++) {
         uint8_t big_endian[8];
@@ -152,8 +152,8 @@ static void free_table(table t) {
 }
 
 int main(void) {
-    table theirs = records_except(3, 250);
-    opener ours = open_session(records_except(7, 100));
+    table theirs = records_except(3, 500);
+    opener ours = open_session(records_except(7, 400));
     buffer reply = new_buffer(64);
     size_t rounds = 0, sent = 0, received = 0;
     while (!ours.session.done) {

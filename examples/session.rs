@@ -12,11 +12,11 @@ struct Records {
 }
 
 impl Records {
-    /// The records that have the numbers 0 to 999 but for every `step`-th from `first` on. They are made in rising order of their times,
+    /// The records that have the numbers 0 to 1,999 but for every `step`-th from `first` on. They are made in rising order of their times,
     /// as a table has to be: sort yours by time, and by id where times are equal.
     fn without(first: u64, step: u64) -> Records {
         let (mut times, mut ids) = (Vec::new(), Vec::new());
-        for number in (0..1000).filter(|number| number % step != first) {
+        for number in (0..2000).filter(|number| number % step != first) {
             times.push(1_700_000_000 + 60 * number);
             ids.extend(sha256(&number.to_be_bytes()));
         }
@@ -56,7 +56,7 @@ fn reconcile(ours: Table<'_>, theirs: Table<'_>) -> Result<(), Refusal> {
 }
 
 fn main() -> ExitCode {
-    let (ours, theirs) = (Records::without(7, 100), Records::without(3, 250));
+    let (ours, theirs) = (Records::without(7, 400), Records::without(3, 500));
     match reconcile(ours.table(), theirs.table()) {
         Ok(()) => ExitCode::SUCCESS,
         Err(refusal) => {

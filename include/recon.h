@@ -126,7 +126,8 @@ recon_answer_t recon_answer(const uint64_t *times, size_t times_len, const uint8
    the start of its buffer (rising, without repeats), and the next query is written at the start of out. If it would say nothing, the
    session is done, and nothing is written (length 0). Bytes behind the list and behind the message stay.
    Refuses by 1 to 12; the session is then the one that was handed over. On 11 and 12 nothing has changed: grow the buffer (needed, with the
-   list in it kept, on 11; out on 12) and call again. */
+   list in it kept, on 11; out on 12) and call again. A needed buffer with room for session.needed + reply_len / 32 ids never meets 11, and
+   spares the call the counting of new ids, which takes longest where they have no room. */
 recon_session_answer recon_take(const uint64_t *times, size_t times_len, const uint8_t *ids, size_t ids_len, size_t parts, size_t limit,
                                 const uint8_t *reply, size_t reply_len, recon_session session, uint8_t *marks, size_t marks_len,
                                 uint8_t *needed, size_t needed_len, uint8_t *out, size_t out_len);

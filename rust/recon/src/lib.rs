@@ -72,6 +72,8 @@
 //! `RECON_LIB_DIR` names, or else where the repository and the archive have it. It needs nothing but `memcpy` and `memset`.
 #![no_std]
 #![warn(missing_docs)]
+// This page speaks of both types also where they are left out.
+#![cfg_attr(not(feature = "alloc"), allow(rustdoc::broken_intra_doc_links))]
 
 #[cfg(feature = "alloc")]
 extern crate alloc;

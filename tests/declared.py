@@ -248,11 +248,15 @@ def rust_struct(words, constants, start):
     return Struct(name, items, start, words.behind())
 
 
+def opened(path, text, language):
+    """A file of which nothing is read yet, its words, and the constants in it."""
+    source, bare = Source(path, text, language), without_comments(text)
+    return source, Words(source, bare), constants_of(bare)
+
+
 def read_rattle(path, text):
     """The exported functions and their structs."""
-    source = Source(path, text, "Rattle")
-    bare = without_comments(text)
-    words, constants = Words(source, bare), constants_of(bare)
+    source, words, constants = opened(path, text, "Rattle")
     while words.seek("#", "extern"):
         start = words.start()
         if words.accept("#", "[", "no_mangle"):
@@ -273,9 +277,7 @@ def read_rattle(path, text):
 def read_rust(path, text, whole):
     """The functions in extern "C" blocks, and the structs. Where the file need not declare all calls, functions of other libraries may stand there
     as well."""
-    source = Source(path, text, "Rust")
-    bare = without_comments(text)
-    words, constants = Words(source, bare), constants_of(bare)
+    source, words, constants = opened(path, text, "Rust")
     while words.seek("#", "extern"):
         start = words.start()
         if words.accept("#", "[", "repr"):

@@ -11,7 +11,7 @@ use Rattle.ends.specs.Opener.{Lent, opened, taken}
 use Rattle.ends.specs.Demand.{Take, Place, opening, Reported, OneTime}
 use Rattle.ends.specs.Takes.{Run}
 
--- SPEC 6.8: "Reports are as true and complete .. with any mix of replies that are lawful, however they are cut". "The number of queries is then not promised."
+-- SPEC 6.8: "Reports are as true and complete as in 6.5 with any mix of lawful replies." "The number of queries is then not promised."
 abbrev pub TrueAndComplete : (Table → List ℕ → List ℕ → Type 0) → Type 0
 TrueAndComplete Replies =
     (A B : Table) (a : Cut) → Bytes (A .ids) → Bytes (B .ids) → OneTime (items A ++ items B)

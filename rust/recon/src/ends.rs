@@ -143,10 +143,9 @@ impl fmt::Debug for Responder<'_> {
     }
 }
 
-/// The ids in a byte string.
+/// The ids in a byte string. A chunk has the bytes of an id, so none is left out.
 fn ids(bytes: &[u8]) -> impl Iterator<Item = &[u8; ID_BYTES]> {
-    let chunks = bytes.chunks_exact(ID_BYTES);
-    chunks.map(|id| id.try_into().expect("a chunk has the bytes of an id"))
+    bytes.chunks_exact(ID_BYTES).filter_map(|id| id.try_into().ok())
 }
 
 /// The least size of an out buffer. An opening by the default cut needs no more.

@@ -1,7 +1,7 @@
 -- What an unrefused call went through, and what a refused take leaves.
 use Prim.Native.Nat.{ℕ}
 use mathlib.Core.Path.{_≡_, refl, sym, ap, _∙_}
-use mathlib.Core.Bool.{Bool, true, false, _||_}
+use mathlib.Core.Bool.{Bool, true, false, cond, _||_}
 use mathlib.Core.List.{List}
 use lib.Dec.{ltb}
 use lib.ListN.{length, take}
@@ -16,7 +16,7 @@ use Rattle.table.specs.Answer.{Answer, answer, refused, refuseIf}
 use Rattle.table.specs.Table.{Table, items, wrongSize, notRising, judgeTable}
 use Rattle.cutting.specs.Cutting.{outsideLimits, judgeCut}
 use Rattle.ends.specs.Calls.{result, onceRead, reading}
-use Rattle.ends.specs.Responder.{reply, answered}
+use Rattle.ends.specs.Responder.{reply, otherVersion, answered}
 use Rattle.ends.specs.Opener.{Lent, neededIds, capacity, wrongBuffers, wrongContents, firstQuery, openingLeaves, begin, opened, nextQuery, skipsOnly, written, marksAfter, neededAfter, conclude, taken}
 use Rattle.ends.proofs.Lists.{overwrite-front}
 use Rattle.ends.proofs.Relations.{leaves}
@@ -26,6 +26,11 @@ use Rattle.ends.proofs.Relations.{leaves}
 passed : {X : Type 0} (k : ℕ) (wrong : Bool) (next : Answer X) {x : X} → refuseIf k wrong next ≡ answer x → (wrong ≡ false) × (next ≡ answer x)
 passed k true next e = differ (cc)
 passed k false next e = (refl, e)
+
+-- a test that fails
+not-so : {X : Type 0} (test : Bool) (this next : Answer X) {x : X} → test ≡ false → cond test this next ≡ answer x → next ≡ answer x
+not-so true this next f e = clash refl f
+not-so false this next f e = e
 
 was-read : {X : Type 0} (o : Outcome (List Range)) (next : List Range → Answer X) {x : X} → onceRead o next ≡ answer x
     → (rs : List Range) × (rest : List ℕ) × (o ≡ read rs rest) × (next rs ≡ answer x)
@@ -79,11 +84,12 @@ pub answer-checks : (T : Table) (c : Cut) (query out : List ℕ) (n : ℕ) → a
 unfolding answered
 answer-checks T c query out n e = checked T c _ (unrefused-result out _ n e) .0
 
-pub unrefused-answer : (T : Table) (c : Cut) (query out : List ℕ) (n : ℕ) → answered T c query out .answer ≡ answer n → Answered T c query out n
+-- a query that offers no other version
+pub unrefused-answer : (T : Table) (c : Cut) (query out : List ℕ) (n : ℕ) → otherVersion query ≡ false → answered T c query out .answer ≡ answer n → Answered T c query out n
 unfolding answered
-unrefused-answer T c query out n e =
+unrefused-answer T c query out n own e =
     let w = checked T c _ (unrefused-result out _ n e) in
-    let r = was-read (readMessage query) _ (w .1) in
+    let r = was-read (readMessage query) _ (not-so (otherVersion query) _ _ own (w .1)) in
     let m = writeMessage (reply c (items T) (r .0)) in
     let z = both (passed 12 (ltb (length out) (length m)) _ (r .3) .1) in
     record { checks = w .0; ranges = r .0; rest = r .1; says = r .2; wrote = ap (take n) (z .1) ∙ overwrite-front m out n (z .0) }

@@ -19,7 +19,7 @@ use Rattle.cutting.specs.Cutting.{outsideLimits, cut}
 use Rattle.ends.specs.Lists.{some, same, overwrite}
 use Rattle.ends.specs.Calls.{eachRange}
 use Rattle.ends.specs.Responder as responder
-use Rattle.ends.specs.Responder.{treat, answered}
+use Rattle.ends.specs.Responder.{treat, otherVersion, answered}
 use Rattle.ends.specs.Opener.{Lent, wrongBuffers, wrongContents, firstQuery, openingLeaves, begin, opened, nextQuery, written, unlisted, marksAfter, unowned, insert, neededAfter, takeLeaves, conclude, taken}
 use Rattle.ends.specs.Demand.{Take, Place, opening, Fingerprinted, ReportsOurs, ReportsTheirs, Reported, Answers, HandedAnswers, InRow, unrefused, Throughout, OneTime}
 use Rattle.ends.specs.Takes.{none, then-refused, then-taken}
@@ -92,7 +92,7 @@ record Met : Type 0 where
   mixed : RunHere
 
 met : Met
-unfolding readMessage readRanges readRange readBound readCoded readPrefix readPayload readOfMode readIds readVarint readDigits readBytes key bigEndian idSpace writeMessage tidy prepend isSkip spellMessage spellRanges spellRange spellBound spellPrefix spellPayload spellVarint digitsBefore flatten cut items idsIn zipWith keep every rising keyOf wrongSize notRising within outsideLimits some same overwrite eachRange treat responder.reply answered wrongBuffers wrongContents firstQuery openingLeaves begin opened nextQuery written unlisted marksAfter unowned insert neededAfter takeLeaves conclude taken
+unfolding readMessage readRanges readRange readBound readCoded readPrefix readPayload readOfMode readIds readVarint readDigits readBytes key bigEndian idSpace writeMessage tidy prepend isSkip spellMessage spellRanges spellRange spellBound spellPrefix spellPayload spellVarint digitsBefore flatten cut items idsIn zipWith keep every rising keyOf wrongSize notRising within outsideLimits some same overwrite eachRange treat responder.reply otherVersion answered wrongBuffers wrongContents firstQuery openingLeaves begin opened nextQuery written unlisted marksAfter unowned insert neededAfter takeLeaves conclude taken
 met =
     let answers : Answers ours theirs two two query reply = record { out = replicate 37 0; size = 37; unrefused = refl; written = refl } in
     let answers-back : Answers theirs ours two two reply query = record { out = replicate 37 0; size = 37; unrefused = refl; written = refl } in

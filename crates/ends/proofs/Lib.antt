@@ -6,6 +6,7 @@
 -- Inserting   ids inserted into a list that rises: it stays so
 -- Calls       what an unrefused call went through, and what a refused take leaves
 -- Passing     what an unrefused call leaves passes check 4
+-- Versions    the answer by the first byte of the query, `answers-by-version`; the opener sends 61, `sends-61`
 -- Simulation  a place and the theory's session that agrees with it: at the opening, after a refused take, after an unrefused one
 -- Owed        what the theory claims of a session is so of the place
 -- Takes       the theorem about lists of takes that differ in kind: `reported`, `owed-at`
@@ -24,6 +25,7 @@ pub mod Reports
 pub mod Inserting
 pub mod Calls
 pub mod Passing
+pub mod Versions
 pub mod Simulation
 pub mod Owed
 pub mod Takes

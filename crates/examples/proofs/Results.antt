@@ -2,7 +2,7 @@
 use mathlib.Core.Path.{_≡_, refl}
 use mathlib.Core.Bool.{true, false}
 use mathlib.Core.List.{List, [], _∷_, _++_, map, flatten, zipWith}
-use Prim.Native.Nat.{ℕ}
+use Prim.Native.Nat.{ℕ, _-_}
 use Rattle.message.specs.Reader.{read, refused, readBytes}
 use Rattle.message.specs.Varint.{readDigits, readVarint, digitsBefore, spellVarint}
 use Rattle.message.specs.Code.{idsIn}
@@ -13,6 +13,7 @@ use lib.ListN.{length, replicate}
 use Rattle.theory.specs.Standard.{sizes}
 use Rattle.theory.specs.Cutting.{split}
 use Rattle.table.specs.Answer.{answer}
+use Rattle.table.specs.Answer as Answer
 use Rattle.table.specs.Lists.{keep, every, rising}
 use Rattle.table.specs.Table.{keyOf, items, wrongSize, notRising, within}
 use Rattle.sha256.specs.Fips180.{digest}
@@ -21,9 +22,9 @@ use Rattle.label.specs.Label.{littleEndian, total, labelOf, lowBytes, hashed}
 use Rattle.cutting.specs.Cutting.{fingerprintOf, shared, shortest, outsideLimits, innerBound, fingerprintRanges, cut}
 use Rattle.ends.specs.Lists.{some, same, overwrite}
 use Rattle.ends.specs.Calls.{Result, eachRange}
-use Rattle.ends.specs.Responder.{compare, treat, reply, answered}
+use Rattle.ends.specs.Responder.{compare, treat, reply, otherVersion, answered}
 use Rattle.ends.specs.Opener.{Lent, wrongBuffers, wrongContents, firstQuery, openingLeaves, begin, opened, nextQuery, written, unlisted, marksAfter, unowned, insert, neededAfter, takeLeaves, conclude, taken}
-use Rattle.examples.specs.Table.{Varint, varints, Refused, refusals, Message, messages, merged, Neighbours, neighbours, Division, divisions, Opening, openings, Answering, answers, Taking, takes, Labelled, labels}
+use Rattle.examples.specs.Table.{Varint, varints, Refused, refusals, Message, messages, merged, Neighbours, neighbours, Division, divisions, Opening, openings, Answering, answers, refusedQueries, one, two, Taking, takes, Labelled, labels}
 
 -- an out buffer of just the size that is needed, and marks that are to become 0
 abbrev beforeOpening : Opening → Lent
@@ -45,9 +46,12 @@ afterOpening e = record {
   };
 }
 
--- one byte of the out buffer is left
+-- an out buffer of six bytes, one at least more than an answer has
+abbrev out : List ℕ
+out = replicate 6 0xEE
+
 abbrev afterAnswer : Answering → Result (List ℕ)
-afterAnswer e = record { answer = answer 5; lent = e .reply ++ (0xEE ∷ []) }
+afterAnswer e = record { answer = answer (length (e .reply)); lent = e .reply ++ replicate (6 - length (e .reply)) 0xEE }
 
 -- nothing is written, so that no out buffer is needed
 abbrev beforeTake : Taking → Lent
@@ -74,9 +78,10 @@ pub table :
     × (map (λ (e : Neighbours). shortest (e .first) (e .second)) neighbours ≡ map (λ (e : Neighbours). e .bound) neighbours)
     × (map (λ (e : Division). sizes (e .parts) (e .items)) divisions ≡ map (λ (e : Division). e .sizes) divisions)
     × (map (λ (e : Opening). opened (e .table) (e .cut) (beforeOpening e)) openings ≡ map afterOpening openings)
-    × (map (λ (e : Answering). answered (e .table) (e .cut) (e .query) (replicate 6 0xEE)) answers ≡ map afterAnswer answers)
+    × (map (λ (e : Answering). answered (e .table) (e .cut) (e .query) out) answers ≡ map afterAnswer answers)
+    × (map (λ (e : Refused). answered one two (e .bytes) out) refusedQueries ≡ map (λ (e : Refused). record { answer = Answer.refused (e .number); lent = out }) refusedQueries)
     × (map (λ (e : Taking). taken (e .table) (e .cut) (e .reply) (beforeTake e)) takes ≡ map afterTake takes)
     × (map (λ (e : Labelled). labelOf (e .ids)) labels ≡ map (λ (e : Labelled). e .label) labels)
     × (map (λ (e : Labelled). hashed (e .label)) labels ≡ map (λ (e : Labelled). e .hashed) labels)
-unfolding readMessage readRanges readRange readBound readCoded readPrefix readPayload readOfMode readIds readVarint readDigits readBytes key bigEndian idSpace writeMessage tidy prepend isSkip spellMessage spellRanges spellRange spellBound spellPrefix spellPayload spellVarint digitsBefore flatten sizes split shared shortest innerBound fingerprintRanges cut items idsIn zipWith littleEndian total labelOf lowBytes hashed fingerprintOf L.fingerprint digest keep every rising keyOf wrongSize notRising within outsideLimits some same overwrite eachRange compare treat reply answered wrongBuffers wrongContents firstQuery openingLeaves begin opened nextQuery written unlisted marksAfter unowned insert neededAfter takeLeaves conclude taken
-table = (refl, refl, refl, refl, refl, refl, refl, refl, refl, refl, refl, refl, refl)
+unfolding readMessage readRanges readRange readBound readCoded readPrefix readPayload readOfMode readIds readVarint readDigits readBytes key bigEndian idSpace writeMessage tidy prepend isSkip spellMessage spellRanges spellRange spellBound spellPrefix spellPayload spellVarint digitsBefore flatten sizes split shared shortest innerBound fingerprintRanges cut items idsIn zipWith littleEndian total labelOf lowBytes hashed fingerprintOf L.fingerprint digest keep every rising keyOf wrongSize notRising within outsideLimits some same overwrite eachRange compare treat reply otherVersion answered wrongBuffers wrongContents firstQuery openingLeaves begin opened nextQuery written unlisted marksAfter unowned insert neededAfter takeLeaves conclude taken
+table = (refl, refl, refl, refl, refl, refl, refl, refl, refl, refl, refl, refl, refl, refl)

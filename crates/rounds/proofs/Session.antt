@@ -26,7 +26,7 @@ use Rattle.label.specs.Label.{littleEndian, total, labelOf, lowBytes, hashed}
 use Rattle.cutting.specs.Cutting.{fingerprintOf, shared, shortest, outsideLimits, innerBound, fingerprintRanges, cut}
 use Rattle.ends.specs.Lists.{some, same, overwrite}
 use Rattle.ends.specs.Calls.{eachRange}
-use Rattle.ends.specs.Responder.{compare, treat, reply, answered}
+use Rattle.ends.specs.Responder.{compare, treat, reply, otherVersion, answered}
 use Rattle.ends.specs.Opener.{wrongBuffers, wrongContents, firstQuery, openingLeaves, begin, opened, nextQuery, written, unlisted, marksAfter, unowned, insert, neededAfter, takeLeaves, conclude, taken}
 use Rattle.ends.specs.Demand.{opening, Answers, OneTime, Throughout}
 use Rattle.ends.specs.Instance.{two}
@@ -65,7 +65,7 @@ least (suc k) h = omega arith
 -- ---- the session
 
 pub asked : AskedHere
-unfolding readMessage readRanges readRange readBound readCoded readPrefix readPayload readOfMode readIds readVarint readDigits readBytes key bigEndian idSpace writeMessage tidy prepend isSkip spellMessage spellRanges spellRange spellBound spellPrefix spellPayload spellVarint digitsBefore flatten sizes split shared shortest innerBound fingerprintRanges cut items idsIn zipWith littleEndian total labelOf lowBytes hashed fingerprintOf L.fingerprint digest blocks pad padding compress plus rounds round T₁ T₂ K schedule extend words next keep every rising keyOf wrongSize notRising within outsideLimits some same overwrite eachRange compare treat reply answered wrongBuffers wrongContents firstQuery openingLeaves begin opened nextQuery written unlisted marksAfter unowned insert neededAfter takeLeaves conclude taken
+unfolding readMessage readRanges readRange readBound readCoded readPrefix readPayload readOfMode readIds readVarint readDigits readBytes key bigEndian idSpace writeMessage tidy prepend isSkip spellMessage spellRanges spellRange spellBound spellPrefix spellPayload spellVarint digitsBefore flatten sizes split shared shortest innerBound fingerprintRanges cut items idsIn zipWith littleEndian total labelOf lowBytes hashed fingerprintOf L.fingerprint digest blocks pad padding compress plus rounds round T₁ T₂ K schedule extend words next keep every rising keyOf wrongSize notRising within outsideLimits some same overwrite eachRange compare treat reply otherVersion answered wrongBuffers wrongContents firstQuery openingLeaves begin opened nextQuery written unlisted marksAfter unowned insert neededAfter takeLeaves conclude taken
 asked =
     let answers₁ : Answers ours theirs two two query₁ reply₁ = record { out = replicate 50 0; size = 40; unrefused = refl; written = refl } in
     let answers₂ : Answers ours theirs two two query₂ reply₂ = record { out = replicate 150 0; size = 106; unrefused = refl; written = refl } in
@@ -82,7 +82,7 @@ asked =
     }
 
 pub comes-to : ComesTo
-unfolding readMessage readRanges readRange readBound readCoded readPrefix readPayload readOfMode readIds readVarint readDigits readBytes key bigEndian idSpace writeMessage tidy prepend isSkip spellMessage spellRanges spellRange spellBound spellPrefix spellPayload spellVarint digitsBefore flatten sizes split shared shortest innerBound fingerprintRanges cut items idsIn zipWith littleEndian total labelOf lowBytes hashed fingerprintOf L.fingerprint digest blocks pad padding compress plus rounds round T₁ T₂ K schedule extend words next keep every rising keyOf wrongSize notRising within outsideLimits some same overwrite eachRange compare treat reply answered wrongBuffers wrongContents firstQuery openingLeaves begin opened nextQuery written unlisted marksAfter unowned insert neededAfter takeLeaves conclude taken
+unfolding readMessage readRanges readRange readBound readCoded readPrefix readPayload readOfMode readIds readVarint readDigits readBytes key bigEndian idSpace writeMessage tidy prepend isSkip spellMessage spellRanges spellRange spellBound spellPrefix spellPayload spellVarint digitsBefore flatten sizes split shared shortest innerBound fingerprintRanges cut items idsIn zipWith littleEndian total labelOf lowBytes hashed fingerprintOf L.fingerprint digest blocks pad padding compress plus rounds round T₁ T₂ K schedule extend words next keep every rising keyOf wrongSize notRising within outsideLimits some same overwrite eachRange compare treat reply otherVersion answered wrongBuffers wrongContents firstQuery openingLeaves begin opened nextQuery written unlisted marksAfter unowned insert neededAfter takeLeaves conclude taken
 comes-to = refl
 
 -- what is owed at every place of the list

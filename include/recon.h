@@ -49,14 +49,14 @@ extern "C" {
 #define RECON_MAX_OPENING_BYTES 131078
 
 /* The refusals, in the order in which they are checked: name, number, and what recon_strerror says of it. Of a message: its first byte
-   is 0x61 (6), no varint starts with 0x80 (8), and no mode is above 2 (10). */
+   is 0x61, or 0x60 to 0x6F for recon_answer (6), no varint starts with 0x80 (8), and no mode is above 2 (10). */
 #define RECON_REFUSALS(REFUSAL) \
     REFUSAL(RECON_TABLE_SIZE, 1, "the id bytes are not 32 for each time, or there are more than 1,048,576 items") \
     REFUSAL(RECON_TABLE_ORDER, 2, "the items do not rise strictly by time and id, or a time is 2^64 - 1") \
     REFUSAL(RECON_CUT_LIMITS, 3, "the cut is outside its limits: parts 2 to 64, list limit from the parts to 4,096") \
     REFUSAL(RECON_WRONG_STATE, 4, "marks, needed buffer and session do not fit the table or each other") \
     REFUSAL(RECON_SESSION_DONE, 5, "the session is done") \
-    REFUSAL(RECON_WRONG_VERSION, 6, "the message is empty or of another protocol version") \
+    REFUSAL(RECON_WRONG_VERSION, 6, "the message is empty or begins with no protocol version that is spoken here") \
     REFUSAL(RECON_TRUNCATED, 7, "the message ends inside a range") \
     REFUSAL(RECON_BAD_VARINT, 8, "a number in the message has a leading zero or passes 2^64 - 1") \
     REFUSAL(RECON_BAD_BOUND, 9, "a bound has a time or a prefix that it cannot have, or is not above the one before it") \
@@ -117,7 +117,9 @@ typedef struct {
 recon_session_answer recon_open(const uint64_t *times, size_t times_len, const uint8_t *ids, size_t ids_len, size_t parts, size_t limit,
                                 uint8_t *marks, size_t marks_len, const uint8_t *needed, size_t needed_len, uint8_t *out, size_t out_len);
 
-/* The responder's answer to a query, written at the start of out; bytes of out behind the message stay.
+/* The responder's answer to a query, written at the start of out; bytes of out behind the message stay. A query whose first byte is 0x60 to
+   0x6F but not 0x61 is of another protocol version: nothing more of it is read, and it is answered with the byte 0x61 alone. So an answer to
+   0x62 is the byte 0x61 and starts no session; the other end may open one with 0x61.
    Refuses by 1 to 3, 6 to 10 and 12. On 12 nothing has changed: grow out and call again. */
 recon_answer_t recon_answer(const uint64_t *times, size_t times_len, const uint8_t *ids, size_t ids_len, size_t parts, size_t limit,
                             const uint8_t *query, size_t query_len, uint8_t *out, size_t out_len);

@@ -127,6 +127,25 @@ static void refusal_texts(void) {
     expect("the largest number is unknown", strcmp(recon_strerror(UINT64_MAX), "unknown refusal") == 0);
 }
 
+/* E12, E13: the answer to each first byte, without room for it and with; what follows 62 is not read. */
+static void versions(void) {
+    uint8_t query[2] = {0, 0x80}, out[2];
+    const uint8_t version[1] = {0x61};
+    for (unsigned first = 0; first < 256; first++) {
+        const bool other = first >= 0x60 && first <= 0x6F && first != 0x61;
+        const uint64_t number = first == 0x61 ? RECON_BAD_VARINT : RECON_WRONG_VERSION;
+        query[0] = (uint8_t)first;
+        memset(out, OLD, sizeof out);
+        recon_answer_t answer = recon_answer(times, 3, ids, 96, 2, 2, query, 2, out, 0);
+        expect("a version without room", answer.refusal == (other ? RECON_NO_ROOM : number) && answer.length == 0 && begins(out, 2, nothing, 0));
+        answer = recon_answer(times, 3, ids, 96, 2, 2, query, 2, out, 1);
+        expect("a version with room", answer.refusal == (other ? RECON_OK : number) && answer.length == other && begins(out, 2, version, other));
+    }
+    memset(out, OLD, sizeof out);
+    recon_answer_t answer = recon_answer(times, 3, ids, 96, 2, 2, query, 0, out, 1);
+    expect("an empty query", answer.refusal == RECON_WRONG_VERSION && answer.length == 0 && begins(out, 2, nothing, 0));
+}
+
 /* The refusal of an answer about a table of n items, with so many bytes of ids, or by this cut. */
 static uint64_t by_size(const uint64_t *t, size_t n, const uint8_t *i, size_t id_bytes) {
     uint8_t out[16];
@@ -210,6 +229,7 @@ int main(void) {
     empty_tables();
     two_ranges();
     reports();
+    versions();
     fingerprints();
     refusal_texts();
     limits();

@@ -66,7 +66,7 @@ pub struct Fault {
     pub number: u8,
     pub name: &'static str,
     spoil: Spoil,
-    /// Of 4, what an opening does not judge.
+    /// Of 4, what an opening does not judge; of 6, what an answer does not.
     take_only: bool,
 }
 
@@ -92,12 +92,17 @@ fn edit(number: u8, name: &'static str, spoil: fn(&mut Draft)) -> Fault {
     }
 }
 
-/// A fault of marks, needed list or session that only a take judges.
-fn state(name: &'static str, spoil: fn(&mut Draft)) -> Fault {
+/// A fault that only a take judges.
+fn of_take(number: u8, name: &'static str, spoil: fn(&mut Draft)) -> Fault {
     Fault {
         take_only: true,
-        ..edit(4, name, spoil)
+        ..edit(number, name, spoil)
     }
+}
+
+/// A fault of marks, needed list or session that only a take judges.
+fn state(name: &'static str, spoil: fn(&mut Draft)) -> Fault {
+    of_take(4, name, spoil)
 }
 
 fn append(number: u8, text: &'static str) -> Fault {
@@ -280,8 +285,11 @@ fn session_faults() -> Vec<Fault> {
 fn message_faults() -> Vec<Fault> {
     let mut faults = vec![
         edit(6, "no message", |d| d.message.clear()),
-        edit(6, "first byte 60", |d| set(&mut d.message, 0, 0x60)),
-        edit(6, "first byte 62", |d| set(&mut d.message, 0, 0x62)),
+        edit(6, "first byte 5F", |d| set(&mut d.message, 0, 0x5f)),
+        of_take(6, "first byte 60", |d| set(&mut d.message, 0, 0x60)),
+        of_take(6, "first byte 62", |d| set(&mut d.message, 0, 0x62)),
+        of_take(6, "first byte 6F", |d| set(&mut d.message, 0, 0x6f)),
+        edit(6, "first byte 70", |d| set(&mut d.message, 0, 0x70)),
         edit(6, "first byte E1", |d| set(&mut d.message, 0, 0xe1)),
     ];
     faults.extend(READING_FAULTS.iter().map(|&(number, text)| append(number, text)));

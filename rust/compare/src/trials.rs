@@ -55,6 +55,7 @@ pub fn one_sided() -> Vec<Trial> {
         wrong_state(),
         wrong_messages(),
         wrong_refusals(),
+        wrong_versions(),
         wrong_room(),
         wrong_hashes(),
     ];
@@ -192,6 +193,28 @@ fn wrong_refusals() -> Vec<Trial> {
     ]
 }
 
+#[rustfmt::skip]
+fn wrong_versions() -> Vec<Trial> {
+    vec![
+        trial("versions", "answer Ok", "another version is refused by 6", refuses_version()),
+        trial("versions", "answer Ok", "a query is read behind 62", Damage::Any(|made, outcome| {
+            if outcome.is_ok() && made.lent.message.starts_with(&[0x62, 0x80]) {
+                made.refuse(outcome, 8);
+            }
+        })),
+        trial("versions", "answer Err", "5F is answered", Damage::Any(|made, outcome| {
+            if made.lent.message.starts_with(&[0x5f]) && is_refused_by(outcome, 6) {
+                made.accept(outcome);
+            }
+        })),
+        trial("versions", "answer Err", "the answer to another version needs no room", Damage::Any(|made, outcome| {
+            if made.lent.message.starts_with(&[0x62]) && is_refused_by(outcome, 12) {
+                made.accept(outcome);
+            }
+        })),
+    ]
+}
+
 fn is_refused_by(outcome: &Outcome, number: u8) -> bool {
     matches!(outcome, Err(refused) if refused.number == number)
 }
@@ -204,6 +227,14 @@ fn has_equal_items(table: Table<'_>, from: usize) -> bool {
 
 fn refused_changes_out() -> Damage {
     Damage::Refused(|made, _| flip(made.lent.out, 0))
+}
+
+fn refuses_version() -> Damage {
+    Damage::Any(|made, outcome| {
+        if outcome.is_ok() && made.lent.message.starts_with(&[0x62]) {
+            made.refuse(outcome, 6);
+        }
+    })
 }
 
 #[rustfmt::skip]
@@ -289,6 +320,7 @@ pub fn both_sided() -> Vec<Trial> {
         trial("examples", both, "a bad bound is refused by 10", Damage::Renumber(9, 10)),
         trial("refusals", both, "a bad mode is refused by 9", Damage::Renumber(10, 9)),
         trial("refusals", "before and afterwards", "a refused call changes an out byte", refused_changes_out()),
+        trial("versions", both, "another version is refused by 6", refuses_version()),
         trial("room", both, "exact out room is refused", refuses_exact_room()),
         trial("tables", "the session says", "take counts a mark too many", take(|_, sent| sent.session.marked += 1)),
         trial("tables", "behind what was written", "answer changes an out byte behind it", answer(change_behind)),

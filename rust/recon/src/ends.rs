@@ -123,6 +123,9 @@ impl<'a> Responder<'a> {
 
     /// The reply to a query.
     ///
+    /// A query whose first byte is 60 to 6F (hexadecimal) but not 61 is of another protocol version. The answer to 62 is the byte 61 and
+    /// starts no session: send it on, and the other end may open one with 61.
+    ///
     /// # Errors
     /// Refusals 1 to 3 and 6 to 10, and 12 where memory cannot be had. The next query can be answered all the same.
     pub fn answer(&mut self, query: &[u8]) -> Result<&[u8], Refusal> {

@@ -197,6 +197,17 @@ pub fn open_session(
 
 /// Writes the responder's answer to a query at the start of `out`; its length.
 ///
+/// A query whose first byte is 60 to 6F (hexadecimal) but not 61 is of another protocol version: nothing more of it is read, and the
+/// answer is the byte 61 alone. So an answer to 62 is the byte 61 and starts no session.
+///
+/// ```
+/// use recon::{answer_query, Cut, Table};
+///
+/// let (none, mut out) = (Table { times: &[], ids: &[] }, [0; 1]);
+/// assert_eq!(answer_query(none, Cut::default(), &[0x62, 0x80], &mut out), Ok(1));
+/// assert_eq!(out, [0x61]);
+/// ```
+///
 /// # Errors
 /// Refusals 1 to 3, 6 to 10 and 12; then no byte has changed.
 pub fn answer_query(table: Table<'_>, cut: Cut, query: &[u8], out: &mut [u8]) -> Result<usize, Refusal> {

@@ -79,7 +79,7 @@ refusals! {
     3 CutLimits "the cut is outside its limits: parts 2 to 64, list limit from the parts to 4,096",
     4 WrongState "marks, needed buffer and session do not fit the table or each other",
     5 SessionDone "the session is done",
-    6 WrongVersion "the message is empty or of another protocol version",
+    6 WrongVersion "the message is empty or begins with no protocol version that is spoken here",
     7 Truncated "the message ends inside a range",
     8 BadVarint "a number in the message has a leading zero or passes 2^64 - 1",
     9 BadBound "a bound has a time or a prefix that it cannot have, or is not above the one before it",

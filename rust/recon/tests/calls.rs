@@ -68,6 +68,7 @@ fn a_refused_call_changes_nothing() {
         Err(Refusal::CutLimits)
     );
     assert_eq!(answer_query(table, CUT, &[], &mut out), Err(Refusal::WrongVersion));
+    assert_eq!(answer_query(table, CUT, &[0x62], &mut []), Err(Refusal::NoRoom));
     assert_eq!(out, [9; 38]);
 }
 

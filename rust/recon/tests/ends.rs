@@ -161,7 +161,7 @@ fn refused_replies() -> Vec<(Vec<u8>, Refusal)> {
     let long = [&[0x61][..], &[0x80; 100_000]].concat();
     let rows: [(&[u8], Refusal); 11] = [
         (&[], Refusal::WrongVersion),
-        (&[0x60], Refusal::WrongVersion),
+        (&[0x5f], Refusal::WrongVersion),
         (&[0x61, 0], Refusal::Truncated),
         (&[0x61, 0, 0, 2, 1], Refusal::Truncated),
         (&[0x61, 0x80, 0], Refusal::BadVarint),
@@ -286,6 +286,24 @@ fn an_opening_is_refused_for_its_table_and_cut() {
     };
     assert_eq!(refusal(&[1], &[0; 32], wrong), Some(Refusal::CutLimits));
     assert_eq!(refusal(&[1], &[0; 32], CUTS[1]), None);
+}
+
+/// The answer to 62 is the byte 61 and starts no session: an opener refuses 62, and its session goes on as before.
+#[test]
+fn another_version_is_answered_with_61() {
+    let (ours, theirs) = (Records::new(0..100), Records::new(1..101));
+    let mut opener = Opener::open(ours.table(), CUTS[1]).unwrap();
+    let mut responder = Responder::new(theirs.table(), CUTS[1]);
+    while let Some(query) = opener.query() {
+        for other in [&[0x60][..], &[0x62], &[0x62, 0x80], &[0x6f, 0, 0, 3]] {
+            assert_eq!(responder.answer(other), Ok(&[0x61][..]));
+            assert_eq!(opener.clone().take(other), Err(Refusal::WrongVersion));
+        }
+        let reply = responder.answer(query).unwrap();
+        opener.take(reply).unwrap();
+    }
+    assert_eq!(opener.session().marked, 1);
+    assert_eq!(opener.session().needed, 1);
 }
 
 #[test]

@@ -3,7 +3,7 @@
 use crate::bound::{Bound, Id};
 use crate::cutting::{cutting, list, parts, whole, Cut};
 use crate::label::Label;
-use crate::message::{read, write, Payload, Range};
+use crate::message::{offers_other_version, read, write, write_version, Payload, Range};
 use crate::refusal;
 use crate::table::{to_id, Items, Table};
 use std::iter::Peekable;
@@ -60,10 +60,14 @@ impl GivenBound {
     }
 }
 
-/// Answer: the reply to a query, and its length. Refuses by 1, 2, 3, 6 to 10 and 12.
+/// Answer: the reply to a query, and its length. Refuses by 1, 2, 3, 6 to 10 and 12. Of a query of another version it shall
+/// "read nothing more", so that 7 to 10 don't meet it.
 pub fn answer(times: &[u64], ids: &[u8], b: usize, t: usize, query: &[u8], out: &mut [u8]) -> Result<usize, u8> {
     let table = Table::lent(times, ids)?; // 1, 2
     let cut = Cut::given(b, t)?; // 3
+    if offers_other_version(query) {
+        return write_version(out); // 12
+    }
     let query = read(query)?; // 6 to 10
     let mut reply = Vec::new();
     let mut from = 0;

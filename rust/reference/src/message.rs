@@ -29,6 +29,16 @@ pub struct Range {
     pub payload: Payload,
 }
 
+/// Another version is offered by "a first byte from 60 to 6F other than 61".
+pub fn offers_other_version(query: &[u8]) -> bool {
+    matches!(query.first(), Some(&first) if first >> 4 == 6 && first != VERSION)
+}
+
+/// Another version "is met with the single byte 61, the highest version we know"; 12.
+pub fn write_version(out: &mut [u8]) -> Result<usize, u8> {
+    put(&[VERSION], out)
+}
+
 /// Reads a message as it is spelled, or refuses by 6 to 10: "the first fault met counts".
 /// "What follows the last bound up to infinity is a skip": no range stands for it here, as a final skip isn't written.
 pub fn read(message: &[u8]) -> Result<Vec<Range>, u8> {
@@ -115,11 +125,14 @@ fn read_payload(cursor: Cursor) -> Result<(Payload, Cursor), u8> {
 /// Gives the message's length. "Out bytes behind the message" remain unchanged.
 pub fn write(ranges: Vec<Range>, out: &mut [u8]) -> Result<usize, u8> {
     judge(&ranges)?;
-    let message = spell(&tidy(ranges));
+    put(&spell(&tidy(ranges)), out)
+}
+
+fn put(message: &[u8], out: &mut [u8]) -> Result<usize, u8> {
     if message.len() > out.len() {
         return Err(refusal::OUT_ROOM);
     }
-    out[..message.len()].copy_from_slice(&message);
+    out[..message.len()].copy_from_slice(message);
     Ok(message.len())
 }
 

@@ -9,7 +9,7 @@ use recon::{Cut, Session};
 
 type Example = fn(&mut Case<'_, '_>) -> Check;
 
-const EXAMPLES: [(&str, Example); 11] = [
+const EXAMPLES: [(&str, Example); 12] = [
     ("E1, varints", varints),
     ("E3, the empty table", empty_table),
     ("E4, different times", |case| opening(case, [5, 5, 7], "08 00")),
@@ -17,6 +17,7 @@ const EXAMPLES: [(&str, Example); 11] = [
     ("E6, seven items in three parts", seven_in_three),
     ("E10, fingerprints", fingerprints),
     ("E11, an item that they lack", one_item),
+    ("E12, another version", other_version),
     ("an own id under another range", other_range),
     ("an id under two times", two_times),
     ("skips in answers", skips),
@@ -24,7 +25,7 @@ const EXAMPLES: [(&str, Example); 11] = [
 ];
 
 /// Messages and the number that reading them gives, 0 for none: examples of the specification, or what they are about.
-const MESSAGES: [(&str, &str, u8); 79] = [
+const MESSAGES: [(&str, &str, u8); 80] = [
     ("E2", "61 80", 8),
     ("E2", "61 82 80*8 00", 8),
     ("E3", "61 00 00 02 00", 0),
@@ -93,11 +94,12 @@ const MESSAGES: [(&str, &str, u8); 79] = [
     ("forms never written", "61 06 00 00 02 00 00 02 00 00", 0),
     ("forms never written", "61 06 03 01 00 00 00", 0),
     ("forms never written", "61 00 00 02 03 09*32 07*32 09*32", 0),
-    ("version", "", 6),
-    ("version", "60", 6),
-    ("version", "62", 6),
-    ("version", "62 80", 6),
+    ("E13", "", 6),
+    ("E13", "5F", 6),
+    ("E13", "70", 6),
+    ("version", "5F 80", 6),
     ("version", "00 61", 6),
+    ("version", "E1", 6),
     ("bytes behind a fault", "61 06 00 02 00 80", 8),
     ("bytes behind a fault", "61 06 00 02 00 80 61 00", 8),
     ("neighbouring skips", "61 06 00 00 03 00 00 03 00 02 00", 0),
@@ -262,6 +264,16 @@ fn one_item(case: &mut Case<'_, '_>) -> Check {
     let taken = taken(case, &table(&[(5, &[1])]), "61 00 00 02 00")?;
     same(&taken.marks, &[1], "marks")?;
     session(&taken, 1, 0, true)
+}
+
+/// The responder answers it with the byte 61; a take refuses it.
+fn other_version(case: &mut Case<'_, '_>) -> Check {
+    answered(case, "62 80", "61")?;
+    let (message, out) = (from_text("62 80"), case.rng.bytes(400));
+    let none = OwnedTable::default();
+    let input = end(&none, 2, 2).input(Call::Take).with_message(&message).with_out(&out);
+    case.expect(&input.with_state(NEW_SESSION, &[], &[]), 6)?;
+    Ok(())
 }
 
 /// The item is marked, as its range does not list its id, and the id is needed, as its range has no such item.

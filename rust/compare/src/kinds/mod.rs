@@ -9,6 +9,7 @@ mod refusals;
 mod room;
 mod sessions;
 mod tables;
+mod versions;
 
 use crate::compare::{Check, Comparer};
 use crate::guard;
@@ -63,9 +64,10 @@ macro_rules! kind {
     };
 }
 
-pub static KINDS: [Kind; 10] = [
+pub static KINDS: [Kind; 11] = [
     kind!(examples),
     kind!(refusals),
+    kind!(versions),
     kind!(damaged),
     kind!(tables),
     kind!(sessions),

@@ -143,6 +143,35 @@ fn e11_one_item() {
     );
 }
 
+/// "A first byte from 60 to 6F other than 61 is met with the single byte 61", whatever follows. A take refuses it.
+#[test]
+fn e12_another_version() {
+    let table = Lent::new(&[(5, id(9))]);
+    let (opener, _) = Opener::open(table.clone(), 2, 2);
+    for first in (0x60..=0x6f).filter(|&first| first != 0x61) {
+        for rest in ["", "80", "00 00 02 00", "FF*40"] {
+            let message = joined(&[&[first], &bytes(rest)]);
+            assert_eq!(table.answer(2, 2, &message), Ok(vec![0x61]), "{message:x?}");
+            assert_eq!(opener.clone().take(&message, 1, 99), Err(6), "{message:x?}");
+        }
+    }
+    let mut out = [];
+    assert_eq!(
+        reference::answer(&table.times, &table.ids, 2, 2, &[0x62], &mut out),
+        Err(12)
+    );
+}
+
+/// An empty query, and a first byte outside 60 to 6F.
+#[test]
+fn e13_no_version() {
+    let table = Lent::new(&[(5, id(9))]);
+    assert_eq!(table.answer(2, 2, &[]), Err(6));
+    for first in (0x00..=0xff).filter(|first| !(0x60..=0x6f).contains(first)) {
+        assert_eq!(table.answer(2, 2, &[first, 0x80]), Err(6), "{first:x}");
+    }
+}
+
 /// An own id listed under another range than its item's is marked and needed.
 #[test]
 fn k4_id_in_another_range() {

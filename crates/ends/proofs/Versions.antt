@@ -1,6 +1,6 @@
 -- The answer by the first byte of the query; and whatever the opener sends begins with 61.
-use Prim.Native.Nat.{ℕ, zero, suc, _<_}
-use mathlib.Core.Path.{_≡_, refl, _∙_}
+use Prim.Native.Nat.{ℕ, zero, suc}
+use mathlib.Core.Path.{_≡_, refl}
 use mathlib.Core.List.{List, [], _∷_, List·Memᴰ, List·Memᴰ·cases-cons, List·Memᴰ·append-cases}
 use mathlib.Core.Logic.{_⊎_, inl, inr, ⊎-elim}
 use native.Mathlib.Omega.{arith}
@@ -9,7 +9,7 @@ use borrow.Author.Tests.{le-leb, lt-leb, ne-eqb}
 use Rattle.message.specs.Message.{Range, readMessage, spellRanges, spellMessage}
 use Rattle.message.specs.Bound.{start}
 use Rattle.message.specs.Meaning.{tidy, writeMessage}
-use Rattle.message.proofs.Exact.{byTest, differ}
+use Rattle.message.proofs.Exact.{byTest}
 use Rattle.theory.specs.Rounds.{Cut}
 use Rattle.table.specs.Answer.{Answer, answer, refused}
 use Rattle.table.specs.Table.{Table, items}

@@ -1,7 +1,7 @@
 -- The table of examples holds of the definitions, all rows together.
 use mathlib.Core.Path.{_≡_, refl}
 use mathlib.Core.Bool.{true, false}
-use mathlib.Core.List.{List, [], _∷_, _++_, map, flatten, zipWith}
+use mathlib.Core.List.{List, [], _++_, map, flatten, zipWith}
 use Prim.Native.Nat.{ℕ, _-_}
 use Rattle.message.specs.Reader.{read, refused, readBytes}
 use Rattle.message.specs.Varint.{readDigits, readVarint, digitsBefore, spellVarint}

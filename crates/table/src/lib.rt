@@ -20,7 +20,7 @@ pub enum Refusal {
     WrongState,
     // 5: the session is done
     SessionDone,
-    // 6: the message is empty or of another version
+    // 6: the message is empty or begins with no version that the call takes
     WrongVersion,
     // 7: the message ends inside a range
     Truncated,

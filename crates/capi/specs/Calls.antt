@@ -43,11 +43,6 @@ boundBy true time len = cond (eqb len 0) Bound.Infinity (Bound.At 18446744073709
 boundBy false time len = Bound.At time len
 
 -- the number of the refusal, or 0
-abbrev pub numberIn : A.Answer (List ℕ) → ℕ
-numberIn (A.answer bytes) = 0
+abbrev pub numberIn : {B : Type 0} → A.Answer B → ℕ
+numberIn (A.answer b) = 0
 numberIn (A.refused k) = k
-
--- the bytes, or what stood in their place
-abbrev pub bytesIn : A.Answer (List ℕ) → List ℕ → List ℕ
-bytesIn (A.answer bytes) before = bytes
-bytesIn (A.refused k) before = before

@@ -11,12 +11,15 @@ ghost use Prim.Native.Nat.{ℕ};
 ghost use mathlib.Core.Path.{_≡_};
 ghost use lib.ListN.{length};
 ghost use Rattle.sha256.specs.Fips180.{digest};
+ghost use Rattle.table.specs.Answer.{bytesIn};
 ghost use Rattle.table.specs.Code.{lent};
 ghost use Rattle.ends.specs.Opener.{opened, taken};
 ghost use Rattle.ends.specs.Responder.{answered};
 ghost use Rattle.session.specs.Code.{outcomeOf};
 ghost use Rattle.session.specs.Fingerprint.{fingerprintBetween};
-ghost use Rattle.capi.specs.Calls.{cutBy, lentTo, noSession, told, toldWith, boundBy, numberIn, bytesIn};
+ghost use Rattle.capi.specs.Calls.{cutBy, lentTo, noSession, told, toldWith, boundBy, numberIn};
+
+pub mod trees;
 
 // How many marks are 1, how many ids are needed, and whether the session is done.
 #[repr(C)]

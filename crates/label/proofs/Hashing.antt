@@ -1,4 +1,4 @@
--- The bytes that a fingerprint is made of: the four words of the sum and the varint of the count, each laid behind those before it.
+-- The bytes of a label, and those that its fingerprint is made of: the four words of the sum, then the count, each laid behind those before it.
 use mathlib.Core.Path.{_≡_, refl, sym, ap, ap₂, _∙_, subst}
 use mathlib.Core.List.{List, _∷_, _++_, append-assoc}
 use Prim.Native.Nat.{ℕ, zero, suc, _+_, _-_, _*_, _/_, _%_, _^_, _≤_, _<_}
@@ -16,7 +16,7 @@ use Rattle.message.proofs.Varints.{as-few-as-possible, spell-short}
 use Rattle.writer.specs.Writing.{lay}
 use Rattle.writer.proofs.Laying.{rest, joined, lay-fits, lay-length, lay-behind}
 use Rattle.sha256.specs.Fips180.{digest}
-use Rattle.label.specs.Label.{Label, lowBytes, hashed, fingerprint}
+use Rattle.label.specs.Label.{Label, lowBytes, hashed, fingerprint, spellLabel}
 use Rattle.label.proofs.Words.{pow-step, four}
 
 -- ---- the bytes of a number
@@ -72,26 +72,55 @@ varint-fits v h =
     byTest (leb n 10) (leb-true n 10)
     (λ e. let eleven : 10 + 1 ≡ n = omega (arith, leb-false n 10 e, spell-short v) in absurd (omega (arith, as-few-as-possible 10 v h .0 eleven .1 (omega arith))))
 
--- ---- what is hashed
+-- ---- the bytes of a sum
 
 regroup : (a b c d : List ℕ) → ((a ++ b) ++ c) ++ d ≡ a ++ (b ++ (c ++ d))
 regroup a b c d = simp append-assoc
 
--- the first `end` bytes of an array of 42 to which the four words and the bytes v were written
-pub hashed-is : (a b c d end : ℕ) (v o o₁ l₂ l₃ l₄ l₅ : List ℕ) → a < 2 ^ 64 → b < 2 ^ 64 → c < 2 ^ 64 → length o ≡ 42 → length v ≤ 10 → end ≡ 32 + length v
-    → o₁ ≡ lay (lowBytes 8 a) o → l₂ ≡ lay (lowBytes 8 b) (midOf 8 34 o₁) → l₃ ≡ lay (lowBytes 8 c) (midOf 16 26 (putMid 8 34 o₁ l₂))
-    → l₄ ≡ lay (lowBytes 8 d) (midOf 24 18 (putMid 16 26 (putMid 8 34 o₁ l₂) l₃))
-    → l₅ ≡ lay v (midOf 32 10 (putMid 24 18 (putMid 16 26 (putMid 8 34 o₁ l₂) l₃) l₄))
-    → take end (putMid 32 10 (putMid 24 18 (putMid 16 26 (putMid 8 34 o₁ l₂) l₃) l₄) l₅) ≡ lowBytes 32 (four a b c d) ++ v
-hashed-is a b c d end v o o₁ l₂ l₃ l₄ l₅ ha hb hc h n e p₁ p₂ p₃ p₄ p₅ =
+-- four words laid behind one another
+pub words-laid : (a b c d : ℕ) (o o₁ l₂ l₃ l₄ : List ℕ) → a < 2 ^ 64 → b < 2 ^ 64 → c < 2 ^ 64 → 32 ≤ length o
+    → o₁ ≡ lay (lowBytes 8 a) o → l₂ ≡ lay (lowBytes 8 b) (rest 8 o₁) → l₃ ≡ lay (lowBytes 8 c) (rest 16 (joined 8 o₁ l₂))
+    → l₄ ≡ lay (lowBytes 8 d) (rest 24 (joined 16 (joined 8 o₁ l₂) l₃))
+    → joined 24 (joined 16 (joined 8 o₁ l₂) l₃) l₄ ≡ lay (lowBytes 32 (four a b c d)) o
+words-laid a b c d o o₁ l₂ l₃ l₄ ha hb hc h p₁ p₂ p₃ p₄ =
     let word = lowBytes 8 in
-    let s₂ = behind 8 8 34 (word a) (word b) o o₁ l₂ (low-length 8 b) (omega arith) (omega arith) (low-length 8 a, p₁) p₂ in
-    let s₃ = behind 8 16 26 (word a ++ word b) (word c) o _ l₃ (low-length 8 c) (omega arith) (omega arith) s₂ p₃ in
-    let s₄ = behind 8 24 18 ((word a ++ word b) ++ word c) (word d) o _ l₄ (low-length 8 d) (omega arith) (omega arith) s₃ p₄ in
-    let s₅ = behind (length v) 32 10 (((word a ++ word b) ++ word c) ++ word d) v o _ l₅ refl n (omega arith) s₄ p₅ in
-    let all : List ℕ = (((word a ++ word b) ++ word c) ++ word d) ++ v in
-    ap (take end) (s₅ .1 ∙ lay-fits all o (omega (arith, s₅ .0))) ∙ take-at all (drop (length all) o) end (s₅ .0 ∙ sym e)
-    ∙ ap (λ (x : List ℕ). x ++ v) (regroup (word a) (word b) (word c) (word d) ∙ sym (low-four a b c d ha hb hc))
+    let na = low-length 8 a in
+    let nb = low-length 8 b in
+    let nc = low-length 8 c in
+    let nd = low-length 8 d in
+    let two : length (word a ++ word b) ≡ 16 = omega (arith, length-append (word a) (word b)) in
+    let three : length ((word a ++ word b) ++ word c) ≡ 24 = omega (arith, length-append (word a ++ word b) (word c)) in
+    let s₂ = lay-behind (word a) (word b) o o₁ l₂ 8 (omega arith) (omega arith) p₁ p₂ in
+    let s₃ = lay-behind (word a ++ word b) (word c) o _ l₃ 16 (omega arith) (omega arith) s₂ p₃ in
+    let s₄ = lay-behind ((word a ++ word b) ++ word c) (word d) o _ l₄ 24 (omega arith) (omega arith) s₃ p₄ in
+    s₄ ∙ ap (λ (x : List ℕ). lay x o) (regroup (word a) (word b) (word c) (word d) ∙ sym (low-four a b c d ha hb hc))
+
+-- ---- those of a label
+
+pub spell-length : (l : Label) → length (spellLabel l) ≡ 40
+unfolding spellLabel
+spell-length l = rw (length-append (lowBytes 32 (l .sum)) (lowBytes 8 (l .count)), low-length 32 (l .sum), low-length 8 (l .count)) refl
+
+-- sum and count laid behind one another
+pub spell-laid : (l : Label) (o o₁ l₂ : List ℕ) → 40 ≤ length o → o₁ ≡ lay (lowBytes 32 (l .sum)) o → l₂ ≡ lay (lowBytes 8 (l .count)) (rest 32 o₁) → joined 32 o₁ l₂ ≡ spellLabel l ++ drop 40 o
+unfolding spellLabel
+spell-laid l o o₁ l₂ h p₁ p₂ =
+    let a = lowBytes 32 (l .sum) in
+    let b = lowBytes 8 (l .count) in
+    let na = low-length 32 (l .sum) in
+    let nb = low-length 8 (l .count) in
+    let n : length (a ++ b) ≡ 40 = omega (arith, length-append a b) in
+    lay-behind a b o o₁ l₂ 32 (omega arith) (omega arith) p₁ p₂ ∙ lay-fits (a ++ b) o (omega arith) ∙ ap (λ (k : ℕ). (a ++ b) ++ drop k o) n
+
+-- ---- what is hashed
+
+-- the first `end` bytes of an array of 42 to which the sum and the bytes v were written
+pub hashed-is : (s end : ℕ) (v o o₁ l₂ : List ℕ) → length o ≡ 42 → length v ≤ 10 → end ≡ 32 + length v
+    → o₁ ≡ lay (lowBytes 32 s) o → l₂ ≡ lay v (midOf 32 10 o₁) → take end (putMid 32 10 o₁ l₂) ≡ lowBytes 32 s ++ v
+hashed-is s end v o o₁ l₂ h n e p₁ p₂ =
+    let both = behind (length v) 32 10 (lowBytes 32 s) v o o₁ l₂ refl n (omega arith) (low-length 32 s, p₁) p₂ in
+    let all : List ℕ = lowBytes 32 s ++ v in
+    ap (take end) (both .1 ∙ lay-fits all o (omega (arith, both .0))) ∙ take-at all (drop (length all) o) end (both .0 ∙ sym e)
 
 pub fingerprint-is : (l : Label) (bytes d r : List ℕ) → bytes ≡ hashed l → d ≡ digest bytes → r ≡ take 16 d → r ≡ fingerprint l
 unfolding fingerprint

@@ -56,18 +56,20 @@ word-lt m a h p q = omega arith
 four-lt : (a b c d : ℕ) → a < 2 ^ 64 → b < 2 ^ 64 → c < 2 ^ 64 → d < 2 ^ 64 → four a b c d < 2 ^ 256
 four-lt a b c d ha hb hc hd = word-lt (2 ^ 192) a _ ha (word-lt (2 ^ 128) b _ hb (word-lt (2 ^ 64) c d hc hd))
 
--- the number of an id is that of its four words
-pub id-is : (l : List ℕ) (a b c d : ℕ) → 32 ≤ length l → a < 2 ^ 64 → b < 2 ^ 64 → c < 2 ^ 64 → d < 2 ^ 64
+-- the number of 32 bytes is that of their four words
+pub words-are : (l : List ℕ) (a b c d : ℕ) → 32 ≤ length l
     → a ≡ littleEndian (take 8 (drop 0 l)) → b ≡ littleEndian (take 8 (drop 8 l)) → c ≡ littleEndian (take 8 (drop 16 l)) → d ≡ littleEndian (take 8 (drop 24 l))
-    → four a b c d ≡ (littleEndian (take 32 l) + 0) % 2 ^ 256
-id-is l a b c d h ha hb hc hd pa pb pc pd =
+    → four a b c d ≡ littleEndian (take 32 l)
+words-are l a b c d h pa pb pc pd =
     let more : ℕ → ℕ → ℕ = λ x y. x + 2 ^ 64 * y in
-    let e : four a b c d ≡ littleEndian (take 32 l) =
     sym (bytes-split 8 24 0 l (omega arith)
     ∙ ap₂ more (sym pa) (bytes-split 8 16 8 l (omega arith)
     ∙ ap₂ more (sym pb) (bytes-split 8 8 16 l (omega arith)
-    ∙ ap₂ more (sym pc) (sym pd)))) in
-    sym (ap (λ (n : ℕ). n % 2 ^ 256) (add-zero (littleEndian (take 32 l)) ∙ sym e) ∙ mod-eq-of-lt (four-lt a b c d ha hb hc hd))
+    ∙ ap₂ more (sym pc) (sym pd))))
+
+-- four words make a sum that is not cut
+pub id-is : (v a b c d : ℕ) → a < 2 ^ 64 → b < 2 ^ 64 → c < 2 ^ 64 → d < 2 ^ 64 → four a b c d ≡ v → four a b c d ≡ (v + 0) % 2 ^ 256
+id-is v a b c d ha hb hc hd e = sym (ap (λ (n : ℕ). n % 2 ^ 256) (add-zero v ∙ sym e) ∙ mod-eq-of-lt (four-lt a b c d ha hb hc hd))
 
 -- one word more: l and its carry k are the sum of the low words and the carry j below; h and x those of the words above
 carry-step : (a b j l k p q h x : ℕ) → l + k * 2 ^ 64 ≡ a + b + j → h + x ≡ p + q + k → (l + 2 ^ 64 * h) + 2 ^ 64 * x ≡ (a + 2 ^ 64 * p) + (b + 2 ^ 64 * q) + j

@@ -2,17 +2,19 @@
 use crate::word::add_words;
 use crate::word::first_half;
 use crate::word::word_at;
+use crate::word::words_at_start;
 use crate::word::write_word;
+use crate::word::write_words;
 use sha256::digest;
 use std::num::wrapping_add_u64;
 use writer::varint::width;
 use writer::varint::write_varint;
 ghost use mathlib.Core.Path.{_≡_};
-ghost use mathlib.Core.List.{[], _∷_};
+ghost use mathlib.Core.List.{[], _∷_, _++_};
 ghost use Prim.Native.Nat.{_≤_};
-ghost use lib.ListN.{length, take};
+ghost use lib.ListN.{length, take, drop};
 ghost use Rattle.label.specs.Label as spec;
-ghost use Rattle.label.specs.Code.{labelIn, wholeIds};
+ghost use Rattle.label.specs.Code.{labelIn, wholeIds, labelFrom, labelInto};
 
 mod word;
 
@@ -33,13 +35,10 @@ impl Label {
         requires { ⌜ 32 ≤ length (now id) ⌝ }
         ensures { λ r. ⌜ labelIn r ≡ spec.labelOf (take 32 (now (id .entry)) ∷ []) ⌝ }
     {
-        let sum = [
-            word_at(id, 0),
-            word_at(id, 8),
-            word_at(id, 16),
-            word_at(id, 24),
-        ];
-        Label { sum, count: 1 }
+        Label {
+            sum: words_at_start(id),
+            count: 1,
+        }
     }
 
     // The label of the item whose id is the first 32 bytes of `id`; of none where there are fewer.
@@ -88,11 +87,48 @@ impl Label {
     {
         let mut bytes = [0u8; 42];
         let end = 32 + width(self.count);
-        write_word(&mut bytes, self.sum[0]);
-        write_word(&mut bytes[8..], self.sum[1]);
-        write_word(&mut bytes[16..], self.sum[2]);
-        write_word(&mut bytes[24..], self.sum[3]);
+        let sum = self.sum;
+        write_words(&mut bytes, sum);
         write_varint(&mut bytes[32..], self.count);
         first_half(digest(&bytes[..end]))
+    }
+
+    fn read_whole(bytes: &[u8]) -> Label
+        requires { ⌜ 40 ≤ length (now bytes) ⌝ }
+        ensures { λ r. ⌜ labelIn r ≡ spec.readLabel (now (bytes .entry)) ⌝ }
+    {
+        Label {
+            sum: words_at_start(bytes),
+            count: word_at(bytes, 32),
+        }
+    }
+
+    // The label that the first 40 bytes spell; the empty one where there are fewer.
+    pub fn read(bytes: &[u8]) -> Label
+        ensures { λ r. ⌜ labelIn r ≡ labelFrom (now (bytes .entry)) ⌝ }
+    {
+        if bytes.len() < 40 {
+            return Label::EMPTY;
+        }
+        Label::read_whole(bytes)
+    }
+
+    fn write_whole(self, out: &mut [u8])
+        requires { ⌜ 40 ≤ length (now out) ⌝ }
+        ensures { λ _. ⌜ now (out .exit) ≡ spec.spellLabel (labelIn self) ++ drop 40 (now (out .entry)) ⌝ }
+    {
+        let sum = self.sum;
+        write_words(out, sum);
+        write_word(&mut out[32..], self.count);
+    }
+
+    // Spells the label in the first 40 bytes; where there are fewer, nothing is written.
+    pub fn write(self, out: &mut [u8])
+        ensures { λ _. ⌜ now (out .exit) ≡ labelInto (labelIn self) (now (out .entry)) ⌝ }
+    {
+        if out.len() < 40 {
+            return;
+        }
+        self.write_whole(out);
     }
 }

@@ -5,6 +5,7 @@ ghost use Prim.Native.Nat.{_+_, _*_, _^_, _≤_, _<_};
 ghost use lib.ListN.{length, take, drop};
 ghost use Rattle.writer.specs.Writing.{lay};
 ghost use Rattle.label.specs.Label.{littleEndian, lowBytes};
+ghost use Rattle.label.specs.Code.{sumIn};
 
 // A sum of two words and a carry: its low word, and the carry out of it.
 pub(crate) struct Carried {
@@ -70,6 +71,25 @@ pub(crate) fn write_word(out: &mut [u8], w: u64)
     out[5] = (w5 % 256) as u8;
     out[6] = (w6 % 256) as u8;
     out[7] = (w7 % 256) as u8;
+}
+
+// The number of the first 32 bytes, in four words.
+pub(crate) fn words_at_start(s: &[u8]) -> [u64; 4]
+    requires { ⌜ 32 ≤ length (now s) ⌝ }
+    ensures { λ r. ⌜ sumIn r ≡ littleEndian (take 32 (now (s .entry))) ⌝ }
+{
+    [word_at(s, 0), word_at(s, 8), word_at(s, 16), word_at(s, 24)]
+}
+
+// The 32 bytes of four words at the start of `out`.
+pub(crate) fn write_words(out: &mut [u8], words: [u64; 4])
+    requires { ⌜ 32 ≤ length (now out) ⌝ }
+    ensures { λ _. ⌜ now (out .exit) ≡ lay (lowBytes 32 (sumIn words)) (now (out .entry)) ⌝ }
+{
+    write_word(out, words[0]);
+    write_word(&mut out[8..], words[1]);
+    write_word(&mut out[16..], words[2]);
+    write_word(&mut out[24..], words[3]);
 }
 
 // The first 16 of 32 bytes.

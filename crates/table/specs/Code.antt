@@ -20,6 +20,7 @@ numberOf Refusal.BadBound = 9
 numberOf Refusal.BadMode = 10
 numberOf Refusal.NeededFull = 11
 numberOf Refusal.NoRoom = 12
+numberOf Refusal.WrongTree = 13
 
 abbrev pub checkedOf : Checked → Answer (Unit {0})
 checkedOf Checked.Passed = answer tt

@@ -34,6 +34,8 @@ pub enum Refusal {
     NeededFull,
     // 12: the message to be written is longer than the out buffer
     NoRoom,
+    // 13: the bytes of the tree are not those of a tree over these places, or no place of it is free
+    WrongTree,
 }
 
 impl Refusal {
@@ -54,6 +56,7 @@ impl Refusal {
             Refusal::BadMode => 10,
             Refusal::NeededFull => 11,
             Refusal::NoRoom => 12,
+            Refusal::WrongTree => 13,
         }
     }
 

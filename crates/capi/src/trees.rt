@@ -7,7 +7,7 @@ ghost use mathlib.Core.Path.{_≡_};
 ghost use Rattle.table.specs.Answer.{bytesIn};
 ghost use Rattle.table.specs.Code.{checkedOf, lent};
 ghost use Rattle.tree.specs.Tree as spec;
-ghost use Rattle.tree.specs.Private.{item};
+ghost use Rattle.tree.specs.Tree.{item};
 ghost use Rattle.capi.specs.Calls.{numberIn};
 ghost use Rattle.capi.specs.Trees.{foundIn};
 

@@ -1,15 +1,15 @@
 -- The table of examples holds of the definitions, all rows together.
 use mathlib.Core.Path.{_≡_, refl}
 use mathlib.Core.Bool.{true, false}
-use mathlib.Core.List.{List, [], _++_, map, flatten, zipWith}
-use Prim.Native.Nat.{ℕ, _-_}
+use mathlib.Core.List.{List, [], _∷_, _++_, map, flatten, zipWith}
+use Prim.Native.Nat.{ℕ, _-_, _*_}
 use Rattle.message.specs.Reader.{read, refused, readBytes}
 use Rattle.message.specs.Varint.{readDigits, readVarint, digitsBefore, spellVarint}
 use Rattle.message.specs.Code.{idsIn}
 use Rattle.message.specs.Bound.{bigEndian, idSpace, key, readPrefix, readCoded, readBound, spellPrefix, spellBound}
 use Rattle.message.specs.Message.{readIds, readOfMode, readPayload, readRange, readRanges, readMessage, spellPayload, spellRange, spellRanges, spellMessage}
 use Rattle.message.specs.Meaning.{isSkip, prepend, tidy, writeMessage}
-use lib.ListN.{length, replicate}
+use lib.ListN.{length, take, replicate}
 use Rattle.theory.specs.Standard.{sizes}
 use Rattle.theory.specs.Cutting.{split}
 use Rattle.table.specs.Answer.{answer}
@@ -18,13 +18,14 @@ use Rattle.table.specs.Lists.{keep, every, rising}
 use Rattle.table.specs.Table.{keyOf, items, wrongSize, notRising, within}
 use Rattle.sha256.specs.Fips180.{digest}
 use Rattle.label.specs.Label as L
-use Rattle.label.specs.Label.{littleEndian, total, labelOf, lowBytes, hashed}
+use Rattle.label.specs.Label.{littleEndian, total, labelOf, lowBytes, hashed, spellLabel, readLabel}
+use Rattle.tree.specs.Tree.{depthFrom, depthOf, places, sums, levels, spellLabels, treeOver, wrongTree, labelAt, putLabel, renew, renewAbove, build, grown, noneFree, appended, append, Found, visit, depthIn, labelOfRun}
 use Rattle.cutting.specs.Cutting.{fingerprintOf, shared, shortest, outsideLimits, innerBound, fingerprintRanges, cut}
 use Rattle.ends.specs.Lists.{some, same, overwrite}
 use Rattle.ends.specs.Calls.{Result, eachRange}
 use Rattle.ends.specs.Responder.{compare, treat, reply, otherVersion, answered}
 use Rattle.ends.specs.Opener.{Lent, wrongBuffers, wrongContents, firstQuery, openingLeaves, begin, opened, nextQuery, written, unlisted, marksAfter, unowned, insert, neededAfter, takeLeaves, conclude, taken}
-use Rattle.examples.specs.Table.{Varint, varints, Refused, refusals, Message, messages, merged, Neighbours, neighbours, Division, divisions, Opening, openings, Answering, answers, refusedQueries, one, two, Taking, takes, Labelled, labels}
+use Rattle.examples.specs.Table.{Varint, varints, Refused, refusals, Message, messages, merged, Neighbours, neighbours, Division, divisions, item, Opening, openings, Answering, answers, refusedQueries, one, two, Taking, takes, Labelled, labels, Tree, three, threeLabels, trees, spelled, Depth, depths, Run, emptyRuns, fourth, fourLabels, fourRuns}
 
 -- an out buffer of just the size that is needed, and marks that are to become 0
 abbrev beforeOpening : Opening → Lent
@@ -68,6 +69,12 @@ afterTake e = record {
   lent = record { session = record { marked = e .marked; needed = 0; done = true }; marks = e .marks; needed = []; out = [] };
 }
 
+abbrev lentTree : Tree → List ℕ
+lentTree e = replicate (40 * length (e .labels)) 0xEE
+
+abbrev found : Run → Answer.Answer Found
+found e = answer (record { label = e .label; visited = e .visited })
+
 pub table :
     (map (λ (e : Varint). spellVarint (e .value)) varints ≡ map (λ (e : Varint). e .bytes) varints)
     × (map (λ (e : Varint). readVarint (e .bytes)) varints ≡ map (λ (e : Varint). read (e .value) []) varints)
@@ -83,5 +90,12 @@ pub table :
     × (map (λ (e : Taking). taken (e .table) (e .cut) (e .reply) (beforeTake e)) takes ≡ map afterTake takes)
     × (map (λ (e : Labelled). labelOf (e .ids)) labels ≡ map (λ (e : Labelled). e .label) labels)
     × (map (λ (e : Labelled). hashed (e .label)) labels ≡ map (λ (e : Labelled). e .hashed) labels)
-unfolding readMessage readRanges readRange readBound readCoded readPrefix readPayload readOfMode readIds readVarint readDigits readBytes key bigEndian idSpace writeMessage tidy prepend isSkip spellMessage spellRanges spellRange spellBound spellPrefix spellPayload spellVarint digitsBefore flatten sizes split shared shortest innerBound fingerprintRanges cut items idsIn zipWith littleEndian total labelOf lowBytes hashed fingerprintOf L.fingerprint digest keep every rising keyOf wrongSize notRising within outsideLimits some same overwrite eachRange compare treat reply otherVersion answered wrongBuffers wrongContents firstQuery openingLeaves begin opened nextQuery written unlisted marksAfter unowned insert neededAfter takeLeaves conclude taken
-table = (refl, refl, refl, refl, refl, refl, refl, refl, refl, refl, refl, refl, refl, refl)
+    × (map (λ (e : Tree). build (e .table) (lentTree e)) trees ≡ map (λ (e : Tree). answer (spellLabels (e .labels))) trees)
+    × (map (λ (e : Tree). spellLabels (e .labels)) (take 1 trees) ≡ spelled ∷ [])
+    × (map (λ (e : Depth). depthOf (e .items)) depths ≡ map (λ (e : Depth). e .k) depths)
+    × (map (λ (e : Run). labelOfRun (replicate 600 0) (e .from) (e .to)) emptyRuns ≡ map found emptyRuns)
+    × (append three fourth (spellLabels threeLabels) ≡ answer (spellLabels fourLabels))
+    × (map (λ (e : Run). labelOfRun (spellLabels fourLabels) (e .from) (e .to)) fourRuns ≡ map found fourRuns)
+    × (append (grown three fourth) (item 9 0x05) (spellLabels fourLabels) ≡ Answer.refused 13)
+unfolding readMessage readRanges readRange readBound readCoded readPrefix readPayload readOfMode readIds readVarint readDigits readBytes key bigEndian idSpace writeMessage tidy prepend isSkip spellMessage spellRanges spellRange spellBound spellPrefix spellPayload spellVarint digitsBefore flatten sizes split shared shortest innerBound fingerprintRanges cut items idsIn zipWith littleEndian total labelOf lowBytes hashed fingerprintOf L.fingerprint digest keep every rising keyOf wrongSize notRising within outsideLimits some same overwrite eachRange compare treat reply otherVersion answered wrongBuffers wrongContents firstQuery openingLeaves begin opened nextQuery written unlisted marksAfter unowned insert neededAfter takeLeaves conclude taken spellLabel readLabel depthFrom depthOf places sums levels spellLabels treeOver wrongTree labelAt putLabel renew renewAbove build noneFree appended append visit depthIn labelOfRun L.add
+table = (refl, refl, refl, refl, refl, refl, refl, refl, refl, refl, refl, refl, refl, refl, refl, refl, refl, refl, refl, refl, refl)

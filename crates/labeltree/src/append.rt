@@ -2,7 +2,7 @@
 use crate::depth::depth_of;
 use crate::depth::has_size;
 use crate::stored::put_label;
-use crate::stored::read_label;
+use crate::stored::renew;
 use label::Label;
 use table::Checked;
 use table::Refusal;
@@ -17,17 +17,8 @@ ghost use Rattle.table.specs.Answer.{verdictOf, bytesIn};
 ghost use Rattle.table.specs.Code.{checkedOf, lent};
 ghost use Rattle.table.specs.Private.{Passed};
 ghost use Rattle.tree.specs.Tree as spec;
-ghost use Rattle.tree.specs.Private.{Above, item, placeFault, appendFault};
-
-// Makes label i afresh from its two halves.
-fn renew(tree: &mut [u8], i: usize)
-    requires { ⌜ 80 * i + 120 ≤ length (now tree) ⌝ }
-    ensures { λ _. ⌜ now (tree .exit) ≡ spec.renew i (now (tree .entry)) ⌝ }
-{
-    let left = read_label(tree, 2 * i + 1);
-    let right = read_label(tree, 2 * i + 2);
-    put_label(tree, i, left.add(right));
-}
+ghost use Rattle.tree.specs.Tree.{item};
+ghost use Rattle.tree.specs.Private.{Above, placeFault, appendFault};
 
 // Makes each of the `levels` labels above label i afresh, the lowest first.
 fn renew_above(tree: &mut [u8], levels: usize, i: usize)

@@ -2,6 +2,7 @@
 use crate::depth::depth_of;
 use crate::depth::has_size;
 use crate::stored::put_label;
+use crate::stored::renew;
 use label::Label;
 use table::Checked;
 use table::Refusal;
@@ -14,7 +15,7 @@ ghost use Rattle.label.specs.Code.{labelIn, wholeIds};
 ghost use Rattle.table.specs.Answer.{verdictOf, bytesIn};
 ghost use Rattle.table.specs.Code.{checkedOf, lent};
 ghost use Rattle.tree.specs.Tree as spec;
-ghost use Rattle.tree.specs.Private.{Reaches, halfLabel, written, treeFault};
+ghost use Rattle.tree.specs.Private.{placed, renewBelow, treeFault};
 
 // The label of a place: empty behind the last item.
 fn label_of_place(ids: &[u8], place: usize) -> Label
@@ -24,32 +25,38 @@ fn label_of_place(ids: &[u8], place: usize) -> Label
         return Label::EMPTY;
     }
     let at = place * 32;
-    Label::of_id(&ids[at..])
+    let end = at + 32;
+    Label::of_id(&ids[at..end])
 }
 
-// Stores label `at`, that of the `size` places from `first` on, 2 to the power `level`, and all labels below it.
-fn build_half(
-    ids: &[u8],
-    level: usize,
-    size: usize,
-    at: usize,
-    first: usize,
-    tree: &mut [u8],
-) -> Label
-    requires { ⌜ Reaches (length (now tree)) level size at first ⌝ }
-    ensures { λ r. ⌜ (labelIn r ≡ halfLabel (wholeIds (now (ids .entry))) level first) × (now (tree .exit) ≡ written (wholeIds (now (ids .entry))) level at first (now (tree .entry))) ⌝ }
+// Stores the labels of all places.
+fn store_places(ids: &[u8], places: usize, tree: &mut [u8])
+    requires { ⌜ (1 ≤ places) × (length (now tree) ≡ 40 * (places + places - 1)) ⌝ }
+    ensures { λ _. ⌜ now (tree .exit) ≡ placed places (wholeIds (now (ids .entry))) places (now (tree .entry)) ⌝ }
+{
+    let mut place = 0;
+    while place < places {
+        put_label(tree, places - 1 + place, label_of_place(ids, place));
+        place += 1;
+    }
+}
+
+// Makes label `at` and all labels below it afresh, each from its two halves, down to the places, `level` levels below it.
+fn sum_halves(tree: &mut [u8], level: usize, at: usize)
+    requires { ⌜ 40 * ((at + 2) * 2 ^ level) ≤ length (now tree) + 40 ⌝ }
+    ensures { λ _. ⌜ now (tree .exit) ≡ renewBelow level at (now (tree .entry)) ⌝ }
 {
     if level == 0 {
-        let label = label_of_place(ids, first);
-        put_label(tree, at, label);
-        return label;
+        return;
     }
-    let half = size / 2;
-    let left = build_half(ids, level - 1, half, 2 * at + 1, first, tree);
-    let right = build_half(ids, level - 1, half, 2 * at + 2, first + half, tree);
-    let label = left.add(right);
-    put_label(tree, at, label);
-    label
+    // Both halves are places: a call for each of them would only return.
+    if level == 1 {
+        renew(tree, at);
+        return;
+    }
+    sum_halves(tree, level - 1, 2 * at + 1);
+    sum_halves(tree, level - 1, 2 * at + 2);
+    renew(tree, at);
 }
 
 // Stores all labels of the tree over the items with these ids.
@@ -58,7 +65,8 @@ fn build_whole(ids: &[u8], n: usize, tree: &mut [u8])
     ensures { λ _. ⌜ now (tree .exit) ≡ spec.treeOver (spec.depthOf n) (wholeIds (now (ids .entry))) ⌝ }
 {
     let depth = depth_of(n);
-    build_half(ids, depth.levels, depth.places, 0, 0, tree);
+    store_places(ids, depth.places, tree);
+    sum_halves(tree, depth.levels, 0);
 }
 
 // Checks 1, 2 and 13, for a tree of `len` bytes.

@@ -59,7 +59,7 @@ drop-take (suc a) zero l h = absurd (omega arith)
 drop-take (suc a) (suc b) [] h = sym (take-all (suc b - suc a) [] (omega arith))
 drop-take (suc a) (suc b) (x ∷ l) h = let e : b - a ≡ suc b - suc a = omega arith in drop-take a b l (omega arith) ∙ ap (λ (n : ℕ). take n (drop a l)) e
 
-chunk-at : (tree : List ℕ) (i : ℕ) → labelAt tree i ≡ readLabel (chunk tree i)
+pub chunk-at : (tree : List ℕ) (i : ℕ) → labelAt tree i ≡ readLabel (chunk tree i)
 unfolding labelAt readLabel
 chunk-at tree i =
     label-path

@@ -198,9 +198,9 @@ module _ (tree : List ℕ) (from to : ℕ) where
   unfolding labelOfRun depthIn wrongTree
   run-refuses e = rw e (refl, refl)
 
-  pub run-answers : (f : Found) (end : ℕ) → badSized ≡ false → end ≡ cutTo (2 ^ levelsIn) to → f ≡ visit tree from end levelsIn 0 0 → RunEnds (answer tt) f
+  pub run-answers : (f : Found) (levels places end : ℕ) → badSized ≡ false → levels ≡ levelsIn → places ≡ 2 ^ levelsIn → end ≡ cutTo places to → f ≡ visit tree from end levels 0 0 → RunEnds (answer tt) f
   unfolding labelOfRun depthIn wrongTree
-  run-answers f end e g p = rw e (refl, p ∙ ap (λ (x : ℕ). visit tree from x levelsIn 0 0) g)
+  run-answers f levels places end e l s g p = rw e (refl, p ∙ ap₂ (λ (x y : ℕ). visit tree from x y 0 0) (g ∙ ap (λ (x : ℕ). cutTo x to) s) l)
 
   pub run-size : badSized ≡ false → length tree ≡ 40 * (2 ^ (levelsIn + 1) - 1)
   run-size e = eqb-true _ _ (not-false (eqb (length tree) (40 * (2 ^ (levelsIn + 1) - 1))) e)

@@ -22,10 +22,10 @@ use Rattle.message.specs.Bound.{Bound}
 use Rattle.label.specs.Label.{labelOf}
 use Rattle.tree.specs.Tree.{Found, depthOf, depthIn, treeOver, wrongTree, noneFree, build, append, grown, appended, cutTo, visit, labelOfRun}
 use Rattle.tree.specs.Kept as K
-use Rattle.tree.specs.Kept.{Kept, RunsTold, VisitsFew, KeptBytes, SmallestPower, DepthTold}
+use Rattle.tree.specs.Kept.{Kept, RunsTold, VisitsFew, EmptyRuns, KeptBytes, SmallestPower, DepthTold}
 use Rattle.tree.proofs.Levels.{Sound, over-sound, over-spelled}
 use Rattle.tree.proofs.Depth.{depth-enough, depth-least, depth-grows, depth-told, powers}
-use Rattle.tree.proofs.Visits.{few}
+use Rattle.tree.proofs.Visits.{few, empty-run, visit-outside}
 use Rattle.tree.proofs.Runs.{run-label}
 use Rattle.tree.proofs.Appends.{Spelled, append-sound, append-spelled, same-bytes}
 use Rattle.tree.proofs.Rising.{grown-ids, grown-count}
@@ -126,6 +126,16 @@ depth-read k tree e = depth-told k tree (right-tree k tree e)
 
 pub smallest-power : (n : ℕ) → SmallestPower n
 smallest-power n = record { enough = depth-enough n; least = depth-least n }
+
+cut-below : (n to : ℕ) → cutTo n to ≤ to
+cut-below n to = byTest (leb to n) (λ e. rw e (omega arith)) (λ e. rw e (omega (arith, leb-false to n e)))
+
+pub empty-runs : EmptyRuns
+unfolding labelOfRun
+empty-runs k tree e from to h =
+    let end : ℕ = cutTo (2 ^ k) to in
+    let outside = empty-run from end 0 (2 ^ k) (omega (arith, cut-below (2 ^ k) to)) in
+    rw (depth-read k tree e, e) (ap answer (visit-outside tree from end k 0 0 outside))
 
 kept-size : {T : Table} {tree : List ℕ} → Kept T tree → length tree ≡ 40 * (2 ^ (depthOf (length (T .times)) + 1) - 1)
 kept-size s = kept-holds s .1 .0 .size

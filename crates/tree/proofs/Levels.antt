@@ -131,7 +131,7 @@ module _ (k : ℕ) (ids : List (List ℕ)) (h : length ids ≤ 2 ^ k) where
   pub value-upper : (i : ℕ) → suc i < 2 ^ k → getD all i empty ≡ add (getD all (2 * i + 1) empty) (getD all (2 * i + 2) empty)
   value-upper i l = upper-level k (places k ids) (places-length k ids h) i l
 
-  value-fits : (i : ℕ) → suc i < 2 ^ k + 2 ^ k → Fits (getD all i empty)
+  pub value-fits : (i : ℕ) → suc i < 2 ^ k + 2 ^ k → Fits (getD all i empty)
   value-fits i l =
       byTest (ltb (suc i) (2 ^ k))
       (λ t. subst Fits (sym (value-upper i (ltb-true (suc i) (2 ^ k) t))) (add-fits (getD all (2 * i + 1) empty) (getD all (2 * i + 2) empty)))

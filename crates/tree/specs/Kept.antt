@@ -6,7 +6,7 @@ use Prim.Native.Nat.{ℕ, _+_, _-_, _*_, _^_, _≤_}
 use lib.ListN.{length, take, drop}
 use Rattle.table.specs.Answer.{answer}
 use Rattle.table.specs.Table.{Item, Table, items, idsOf}
-use Rattle.label.specs.Label.{labelOf}
+use Rattle.label.specs.Label.{empty, labelOf}
 use Rattle.tree.specs.Tree.{Found, depthOf, depthIn, wrongTree, build, append, grown, labelOfRun}
 
 -- SPEC 11.8: "every tree that came from a build and appends", and the table that it then belongs to
@@ -27,6 +27,10 @@ RunsTold = (T : Table) (tree : List ℕ) → Kept T tree → (from to : ℕ) →
 -- SPEC 11.8: "The labels visited are at most 4 × (k + 1), for any tree."
 abbrev pub VisitsFew : Type 0
 VisitsFew = (tree : List ℕ) (from to : ℕ) (f : Found) → labelOfRun tree from to ≡ answer f → f .visited ≤ 4 * (depthIn tree + 1)
+
+-- SPEC 11.6: "an empty or reversed run has the empty label", of any tree; SPEC 11.7: "the whole is outside and counts one"
+abbrev pub EmptyRuns : Type 0
+EmptyRuns = (k : ℕ) (tree : List ℕ) → wrongTree k tree ≡ false → (from to : ℕ) → to ≤ from → labelOfRun tree from to ≡ answer (record { label = empty; visited = 1 })
 
 -- SPEC 11.8: "A tree that was appended to has the very bytes that a build from the whole table gives."
 abbrev pub KeptBytes : Type 0

@@ -72,6 +72,10 @@ build T tree = judgeTable T
     (refuseIf 13 (wrongTree (depthOf (length (T .times))) tree)
     (answer (treeOver (depthOf (length (T .times))) (idsOf (items T)))))
 
+-- the item that a time and the bytes of an id make
+abbrev pub item : ℕ → List ℕ → Item
+item time id = record { time = time; id = id }
+
 -- SPEC 11.4: "the table with one more item"
 abbrev pub grown : Table → Item → Table
 grown T i = record { times = T .times ++ i .time ∷ []; ids = T .ids ++ i .id }

@@ -1,8 +1,7 @@
 -- `capi::trees::recon_tree_append` meets its contract.
 use borrow.Author.Needs.{needs}
 use Rattle.table.specs.Code.{lent}
-use Rattle.tree.specs.Tree.{append}
-use Rattle.tree.specs.Private.{item}
+use Rattle.tree.specs.Tree.{append, item}
 use Rattle.capi.proofs.Verdicts.{number-told}
 use Rattle.capi.proofs.trees.recon_tree_append.Statement.{statement}
 use Rattle.capi.proofs.trees.recon_tree_append.Tie as tie

@@ -1,12 +1,11 @@
 -- `labeltree::run::label_of_run` meets its contract.
-use mathlib.Core.Path.{_≡_, ap, ap₂, _∙_}
-use mathlib.Core.Bool.{false}
+use mathlib.Core.Path.{ap, _∙_}
 use Prim.Native.Nat.{ℕ, _+_, _/_}
 use native.Mathlib.Omega.{arith}
 use borrow.Author.Needs.{needs}
 use lib.ListN.{length}
 use borrow.Author.Tests.{not-true, not-false}
-use Rattle.tree.specs.Tree.{Found, cutTo, depthOf, visit}
+use Rattle.tree.specs.Tree.{depthOf}
 use Rattle.tree.proofs.Levels.{power}
 use Rattle.tree.proofs.Halves.{reach-whole}
 use Rattle.tree.proofs.Places.{empty-label}
@@ -42,8 +41,8 @@ returns-2 c =
     let d = c .before .before .before .before .depth-of in
     let end = c .before .cut-to .result in
     let right = size-right (levels s) (length (a .tree .now)) (d .result .places) (d .ensures .1) _ (c .before .before .before .has-size .ensures) (not-false _ (c .before .before .if1 .left)) in
-    run-answers (a .tree .now) (a .from) (a .to) (foundIn (c .visit-half .result)) end right
-    (c .before .cut-to .ensures ∙ ap (λ (x : ℕ). cutTo x (a .to)) (d .ensures .1)) (c .visit-half .ensures ∙ ap (λ (x : ℕ). visit (a .tree .now) (a .from) end x 0 0) (d .ensures .0))
+    run-answers (a .tree .now) (a .from) (a .to) (foundIn (c .visit-half .result)) (d .result .levels) (d .result .places) end right
+    (d .ensures .0) (d .ensures .1) (c .before .cut-to .ensures) (c .visit-half .ensures)
 
 pub label-of-run-spec : {M : Type 1} → statement M
 label-of-run-spec =

@@ -10,4 +10,4 @@ returns c =
     read-is (s .args .tree .now) (s .args .i) (s .pre) _ (c .read .ensures)
 
 pub read-label-spec : {M : Type 1} → statement M
-read-label-spec = tie.close (tie.spec (λ c. search needs) (λ c. search needs) (λ c. search needs) (λ c. search needs) (λ c κs. search needs) returns)
+read-label-spec = tie.close (tie.spec (λ c. search needs) (λ c. search needs) (λ c. search needs) (λ c. search needs) (λ c. search needs) (λ c κs. search needs) returns)

@@ -1,6 +1,6 @@
 //! The calls of include/recon.h. Each is safe for every slice: a slice's pointer is not null and points to as many elements as its length
 //! says, the borrows keep written slices apart from all others, and the calls themselves have no condition.
-use crate::{Bound, Cut, Session, Table};
+use crate::{Bound, Cut, Label, Session, Table};
 
 #[repr(C)]
 #[derive(Clone, Copy)]
@@ -23,12 +23,34 @@ pub struct SessionAnswer {
     pub session: RawSession,
 }
 
+#[repr(C)]
+pub struct RawLabel {
+    sum: [u64; 4],
+    count: u64,
+}
+
+#[repr(C)]
+pub struct TreeAnswer {
+    pub refusal: u64,
+    pub label: RawLabel,
+    pub visited: u64,
+}
+
 impl From<RawSession> for Session {
     fn from(s: RawSession) -> Session {
         Session {
             marked: s.marked,
             needed: s.needed,
             done: s.done,
+        }
+    }
+}
+
+impl From<RawLabel> for Label {
+    fn from(l: RawLabel) -> Label {
+        Label {
+            sum: l.sum,
+            count: l.count,
         }
     }
 }
@@ -54,6 +76,14 @@ extern "C" {
         upper_infinite: bool, upper_time: u64, upper_prefix: *const u8, upper_prefix_len: usize, out: *mut u8,
     ) -> u64;
     fn recon_sha256(m: *const u8, m_len: usize, out: *mut u8);
+    fn recon_tree_build(
+        times: *const u64, times_len: usize, ids: *const u8, ids_len: usize, tree: *mut u8, tree_len: usize,
+    ) -> u64;
+    fn recon_tree_append(
+        times: *const u64, times_len: usize, ids: *const u8, ids_len: usize,
+        time: u64, id: *const u8, id_len: usize, tree: *mut u8, tree_len: usize,
+    ) -> u64;
+    fn recon_tree_label(tree: *const u8, tree_len: usize, from: usize, to: usize) -> TreeAnswer;
 }
 
 #[rustfmt::skip]
@@ -125,4 +155,30 @@ pub fn sha256(message: &[u8]) -> [u8; 32] {
     // SAFETY: see the head of this file.
     unsafe { recon_sha256(message.as_ptr(), message.len(), digest.as_mut_ptr()) };
     digest
+}
+
+#[rustfmt::skip]
+pub fn tree_build(table: Table<'_>, tree: &mut [u8]) -> u64 {
+    // SAFETY: see the head of this file.
+    unsafe {
+        recon_tree_build(
+            table.times.as_ptr(), table.times.len(), table.ids.as_ptr(), table.ids.len(), tree.as_mut_ptr(), tree.len(),
+        )
+    }
+}
+
+#[rustfmt::skip]
+pub fn tree_append(table: Table<'_>, time: u64, id: &[u8], tree: &mut [u8]) -> u64 {
+    // SAFETY: see the head of this file.
+    unsafe {
+        recon_tree_append(
+            table.times.as_ptr(), table.times.len(), table.ids.as_ptr(), table.ids.len(),
+            time, id.as_ptr(), id.len(), tree.as_mut_ptr(), tree.len(),
+        )
+    }
+}
+
+pub fn tree_label(tree: &[u8], from: usize, to: usize) -> TreeAnswer {
+    // SAFETY: see the head of this file.
+    unsafe { recon_tree_label(tree.as_ptr(), tree.len(), from, to) }
 }

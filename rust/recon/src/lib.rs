@@ -57,6 +57,26 @@
 //! # Ok::<(), Refusal>(())
 //! ```
 //!
+//! # Trees of labels
+//!
+//! The label of some items is the sum of their ids and their number; a fingerprint is a hash of it. A tree keeps the labels of a table, of the
+//! whole, its halves, their halves and so on, in a buffer of [`tree_bytes`]: [`build_tree`] makes it, [`append_to_tree`] adds an item above all
+//! others, and [`label_of_run`] has the label of any items that stand in a row, without adding up each of them.
+//!
+//! ```
+//! use recon::{append_to_tree, build_tree, label_of_run, tree_bytes, Refusal, Table};
+//!
+//! let ids = [[1; 32], [2; 32], [3; 32], [4; 32]].concat();
+//! let three = Table { times: &[5, 5, 7], ids: &ids[..96] };
+//! let mut tree = [0; tree_bytes(3)];
+//! build_tree(three, &mut tree)?;
+//! append_to_tree(three, 9, &ids[96..], &mut tree)?;
+//! assert_eq!(label_of_run(&tree, 1..4)?.label.sum, [0x0909_0909_0909_0909; 4]);
+//! # Ok::<(), Refusal>(())
+//! ```
+//!
+//! # What all calls share
+//!
 //! No call panics or has a condition: whatever is wrong with what it is handed, it answers with a [`Refusal`], and then it has changed
 //! nothing. After refusals 11 and 12 make the buffer larger and the call again. Each plain call is proved equal to its definition. This crate
 //! only passes slices on, and the two types keep the buffers.
@@ -84,10 +104,12 @@ extern crate std;
 mod ends;
 mod ffi;
 mod refusal;
+mod trees;
 
 #[cfg(feature = "alloc")]
 pub use ends::{Opener, Responder};
 pub use refusal::Refusal;
+pub use trees::{append_to_tree, build_tree, label_of_run, tree_bytes, Label, RunLabel};
 
 /// The version of this crate.
 pub const VERSION: &str = env!("CARGO_PKG_VERSION");
@@ -97,6 +119,9 @@ pub const ID_BYTES: usize = 32;
 
 /// The bytes of a fingerprint.
 pub const FINGERPRINT_BYTES: usize = 16;
+
+/// The bytes of a label in a tree: 32 of the sum and 8 of the count, least significant first.
+pub const LABEL_BYTES: usize = 40;
 
 /// The most items that a table may have.
 pub const MAX_ITEMS: usize = 1_048_576;

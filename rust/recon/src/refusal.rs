@@ -3,7 +3,8 @@ use core::fmt;
 /// The kinds, with all that depends on them. A further kind is a further line where this is used, below.
 macro_rules! refusals {
     ($($number:literal $kind:ident $text:literal $($more:literal)?,)+) => {
-        /// Why a call is refused. The numbers are those of the specification and of `recon.h`, in the order in which a call checks them.
+        /// Why a call is refused. The numbers are those of the specification and of `recon.h`, in the order in which a call checks them, save
+        /// that 13 is checked right after 2.
         ///
         /// A refused call has changed nothing. So after [`NeededFull`](Refusal::NeededFull) and [`NoRoom`](Refusal::NoRoom) the call can be
         /// made again with a larger buffer.
@@ -88,6 +89,8 @@ refusals! {
         "Nothing has changed: make the call again with a larger buffer.",
     12 NoRoom "the out buffer is too small for the message"
         "Nothing has changed: make the call again with a larger buffer.",
+    13 WrongTree "the tree is not as long as one over these items is, or has no free place"
+        "Nothing has changed. After an append to a full tree, build one over all the items: it has twice the places.",
 }
 
 impl fmt::Display for Refusal {

@@ -9,8 +9,9 @@ use crate::table::{Items, Table};
 #[derive(Clone, Copy, Debug, PartialEq, Eq)]
 pub struct Label {
     /// Four words of 64 bits, least significant first.
-    sum: [u64; 4],
-    count: u64,
+    pub sum: [u64; 4],
+    /// The number of items.
+    pub count: u64,
 }
 
 impl Label {
@@ -28,7 +29,7 @@ impl Label {
         Label { sum, count: 1 }
     }
 
-    /// Adds sums modulo 2^256, and counts.
+    /// Adds sums modulo 2^256, and counts modulo 2^64. Only "a tree not from build and appends" has counts that wrap.
     pub fn plus(self, other: Label) -> Label {
         let mut sum = [0; 4];
         let mut carry = 0;
@@ -39,7 +40,7 @@ impl Label {
         }
         Label {
             sum,
-            count: self.count + other.count,
+            count: self.count.wrapping_add(other.count),
         }
     }
 
@@ -48,6 +49,25 @@ impl Label {
         table
             .ids(items)
             .fold(Label::EMPTY, |label, id| label.plus(Label::of_id(&id)))
+    }
+
+    /// The 40 bytes in a tree: "sum then count, least significant byte first".
+    pub fn bytes(self) -> [u8; 40] {
+        let mut bytes = [0; 40];
+        let [a, b, c, d] = self.sum;
+        for (place, word) in bytes.chunks_exact_mut(8).zip([a, b, c, d, self.count]) {
+            place.copy_from_slice(&word.to_le_bytes());
+        }
+        bytes
+    }
+
+    /// The label that has these 40 bytes in a tree.
+    pub fn of_bytes(bytes: &[u8]) -> Label {
+        let word = |i: usize| (0..8).fold(0, |word, byte| word | u64::from(bytes[8 * i + byte]) << (8 * byte));
+        Label {
+            sum: [word(0), word(1), word(2), word(3)],
+            count: word(4),
+        }
     }
 
     /// "The sum (32 bytes, least significant first) followed by the count as a varint".
@@ -108,6 +128,31 @@ mod tests {
         assert_eq!(Label::of_id(&last).sum, [0, 0, 0, 1 << 56]);
         assert_eq!(Label::of_id(&id(1)).sum, [1, 0, 0, 0]);
         assert!(last < id(1));
+    }
+
+    #[test]
+    fn bytes_of_a_label() {
+        let label = Label {
+            sum: [0x0807_0605_0403_0201, 1, 2, 0xff << 56],
+            count: 0x0102,
+        };
+        let mut bytes = vec![1, 2, 3, 4, 5, 6, 7, 8, 1];
+        bytes.resize(16, 0);
+        bytes.push(2);
+        bytes.resize(31, 0);
+        bytes.extend([0xff, 0x02, 0x01, 0, 0, 0, 0, 0, 0]);
+        assert_eq!(label.bytes()[..], bytes[..]);
+        assert_eq!(Label::of_bytes(&bytes), label);
+        assert_eq!(Label::of_bytes(&[0xff; 40]).count, u64::MAX);
+    }
+
+    #[test]
+    fn counts_wrap() {
+        let most = Label {
+            count: u64::MAX,
+            ..Label::EMPTY
+        };
+        assert_eq!(most.plus(Label::of_id(&id(0))), Label::EMPTY);
     }
 
     #[test]

@@ -24,3 +24,5 @@ pub const MODE: u8 = 10;
 pub const NEEDED_ROOM: u8 = 11;
 /// "The message to be written is longer than the out buffer."
 pub const OUT_ROOM: u8 = 12;
+/// "The tree isn't 40 × (2^(k+1) − 1) bytes or an append finds no place free". It comes "after 2".
+pub const TREE: u8 = 13;

@@ -1,6 +1,6 @@
 //! The two implementations behind one interface: the library, and the independent reference.
 use crate::raw;
-use recon::{Bound, Cut, Sent, Session, Table};
+use recon::{Bound, Cut, RunLabel, Sent, Session, Table};
 
 #[derive(Clone, Copy, Debug, PartialEq, Eq)]
 pub enum Call {
@@ -26,6 +26,34 @@ impl Call {
             Call::Open => matches!(number, 1..=4 | 12),
             Call::Answer => matches!(number, 1..=3 | 6..=10 | 12),
             Call::Take => matches!(number, 1..=12),
+        }
+    }
+}
+
+/// A call on a tree of labels.
+#[derive(Clone, Copy, Debug, PartialEq, Eq)]
+pub enum TreeCall {
+    Build,
+    Append,
+    Run,
+}
+
+impl TreeCall {
+    pub const ALL: [TreeCall; 3] = [TreeCall::Build, TreeCall::Append, TreeCall::Run];
+
+    pub fn name(self) -> &'static str {
+        match self {
+            TreeCall::Build => "tree build",
+            TreeCall::Append => "tree append",
+            TreeCall::Run => "tree run",
+        }
+    }
+
+    /// Whether the specification lets the call refuse by this number.
+    pub fn can_refuse_by(self, number: u8) -> bool {
+        match self {
+            TreeCall::Build | TreeCall::Append => matches!(number, 1 | 2 | 13),
+            TreeCall::Run => number == 13,
         }
     }
 }
@@ -75,11 +103,25 @@ impl GivenBound<'_> {
     ];
 }
 
+/// An item as it is handed to an append; its id may have any number of bytes.
+#[derive(Clone, Copy, Debug)]
+pub struct GivenItem<'a> {
+    pub time: u64,
+    pub id: &'a [u8],
+}
+
+/// The label of a run, or the number of a refusal.
+pub type RunOutcome = Result<RunLabel, u8>;
+
 pub trait Calls {
     fn name(&self) -> &'static str;
     fn run(&self, call: Call, lent: &mut Lent<'_>) -> Outcome;
     fn fingerprint(&self, table: Table<'_>, lower: GivenBound<'_>, upper: GivenBound<'_>) -> Result<[u8; 16], u8>;
     fn sha256(&self, message: &[u8]) -> [u8; 32];
+    fn tree_build(&self, table: Table<'_>, tree: &mut [u8]) -> Result<(), u8>;
+    /// The table is the one before the item.
+    fn tree_append(&self, table: Table<'_>, item: GivenItem<'_>, tree: &mut [u8]) -> Result<(), u8>;
+    fn tree_label(&self, tree: &[u8], from: usize, to: usize) -> RunOutcome;
 }
 
 /// The session that a refused opening hands back: nothing is reported, and it is not done.
@@ -145,6 +187,26 @@ impl Calls for Library {
     fn sha256(&self, message: &[u8]) -> [u8; 32] {
         recon::sha256(message)
     }
+
+    fn tree_build(&self, table: Table<'_>, tree: &mut [u8]) -> Result<(), u8> {
+        recon::build_tree(table, tree).map_err(|refusal| small(refusal.number()))
+    }
+
+    fn tree_append(&self, table: Table<'_>, item: GivenItem<'_>, tree: &mut [u8]) -> Result<(), u8> {
+        recon::append_to_tree(table, item.time, item.id, tree).map_err(|refusal| small(refusal.number()))
+    }
+
+    fn tree_label(&self, tree: &[u8], from: usize, to: usize) -> RunOutcome {
+        let result = recon::label_of_run(tree, from..to).map_err(|refusal| small(refusal.number()));
+        // The safe crate leaves out what the C call says beside a refusal, which is nothing.
+        let told = (result.err().map_or(0, u64::from), result.unwrap_or_default());
+        assert_eq!(
+            raw::tree_label(tree, from, to),
+            told,
+            "the C call answers as the safe call does"
+        );
+        result
+    }
 }
 
 /// A refusal's number as the reference has it. The specification has none that is larger.
@@ -200,6 +262,26 @@ impl Calls for Reference {
 
     fn sha256(&self, message: &[u8]) -> [u8; 32] {
         reference::sha256(message)
+    }
+
+    fn tree_build(&self, table: Table<'_>, tree: &mut [u8]) -> Result<(), u8> {
+        reference::tree_build(table.times, table.ids, tree)
+    }
+
+    fn tree_append(&self, table: Table<'_>, item: GivenItem<'_>, tree: &mut [u8]) -> Result<(), u8> {
+        reference::tree_append(table.times, table.ids, item.time, item.id, tree)
+    }
+
+    fn tree_label(&self, tree: &[u8], from: usize, to: usize) -> RunOutcome {
+        reference::tree_label(tree, from, to).map(run_label)
+    }
+}
+
+fn run_label(run: reference::RunLabel) -> RunLabel {
+    let reference::Label { sum, count } = run.label;
+    RunLabel {
+        label: recon::Label { sum, count },
+        visited: run.visited,
     }
 }
 

@@ -1,8 +1,9 @@
 //! Compares one call of two implementations: the answers, and every byte of all that was lent.
-use crate::calls::{Call, Calls, GivenBound, Reference, Refused};
+use crate::calls::{Call, Calls, GivenBound, Reference, Refused, RunOutcome, TreeCall};
 use crate::guard::Side;
 use crate::input::{After, Input, Regions};
 use crate::show;
+use crate::tree::{check_run, TreeAfter, TreeInput};
 use recon::{Sent, Table};
 
 /// A check: what it gives, or what differs.
@@ -12,12 +13,18 @@ pub type Check<T = ()> = Result<T, String>;
 #[derive(Clone, Default)]
 pub struct Counts {
     pub cases: u64,
-    /// Calls compared, those of fingerprints and digests included.
+    /// Calls compared, those of fingerprints, digests and trees included.
     pub calls: u64,
     /// Those of them with every slice beside an inaccessible page.
     pub guarded: u64,
     /// How often each call gave each number, 0 for no refusal.
     pub numbers: [[u64; 13]; 3],
+    /// The same for the calls on trees.
+    pub tree_numbers: [[u64; 14]; 3],
+    /// Runs of trees from builds and appends whose label is that of the items.
+    pub summed: u64,
+    /// Appends that left the tree that a build leaves.
+    pub rebuilt: u64,
     /// Sessions that came to their end.
     pub sessions: u64,
     /// Takes of them that were not refused.
@@ -40,9 +47,16 @@ impl Counts {
         self.late += other.late;
         self.full_rows += other.full_rows;
         self.excused += other.excused;
+        self.summed += other.summed;
+        self.rebuilt += other.rebuilt;
         let sums = self.numbers.iter_mut().flatten();
-        sums.zip(other.numbers.iter().flatten())
-            .for_each(|(sum, count)| *sum += count);
+        let tree_sums = self.tree_numbers.iter_mut().flatten();
+        let counts = other
+            .numbers
+            .iter()
+            .flatten()
+            .chain(other.tree_numbers.iter().flatten());
+        sums.chain(tree_sums).zip(counts).for_each(|(sum, count)| *sum += count);
     }
 }
 
@@ -151,6 +165,59 @@ impl<'a> Comparer<'a> {
         same_bytes(&first, &second, || format!("digests of {} bytes", message.len()))?;
         Ok(first)
     }
+
+    /// A build or an append with both implementations; what both answer.
+    pub fn tree(&mut self, input: &TreeInput<'_>) -> Check<TreeAfter> {
+        if self.show {
+            print!("{}", show::tree(input));
+        }
+        let side = self.next_side();
+        let guarded = self.regions.tree(self.first, input, side);
+        self.counts.guarded += u64::from(guarded.is_some());
+        let (first, unchanged) = guarded.unwrap_or_else(|| (input.run(self.first), true));
+        let second = input.run(self.second);
+        if self.show {
+            println!("  {}: {:?}", self.first.name(), first.outcome);
+            println!("  {}: {:?}", self.second.name(), second.outcome);
+        }
+        let names = format!("{} and {}", self.first.name(), self.second.name());
+        compare_trees(&first, &second, &names)
+            .and_then(|()| check_read(unchanged))
+            .and_then(|()| input.check_refused(&first))
+            .map_err(|text| format!("{}: {}", input.call().name(), text))?;
+        self.counts.tree_numbers[input.call() as usize][usize::from(first.number())] += 1;
+        Ok(first)
+    }
+
+    /// The label of a run with both implementations.
+    pub fn tree_label(&mut self, tree: &[u8], from: usize, to: usize) -> Check<RunOutcome> {
+        if self.show {
+            print!("{}", show::tree_run(tree, from, to));
+        }
+        let side = self.next_side();
+        let guarded = self.regions.tree_label(self.first, tree, (from, to), side);
+        self.counts.guarded += u64::from(guarded.is_some());
+        let (first, unchanged) = guarded.unwrap_or_else(|| (self.first.tree_label(tree, from, to), true));
+        let second = self.second.tree_label(tree, from, to);
+        let told = |text| format!("{} from {} to {}: {}", TreeCall::Run.name(), from, to, text);
+        if first != second {
+            let names = (self.first.name(), self.second.name());
+            return Err(told(format!("{:?} tell {:?} and {:?}", names, first, second)));
+        }
+        check_read(unchanged)
+            .and_then(|()| first.map_or(Ok(()), |run| check_run(tree, from, to, run)))
+            .map_err(told)?;
+        self.counts.tree_numbers[TreeCall::Run as usize][usize::from(first.err().unwrap_or(0))] += 1;
+        Ok(first)
+    }
+}
+
+fn compare_trees(first: &TreeAfter, second: &TreeAfter, names: &str) -> Check {
+    if first.outcome != second.outcome {
+        let outcomes = (first.outcome, second.outcome);
+        return Err(format!("{} answer {:?} and {:?}", names, outcomes.0, outcomes.1));
+    }
+    same_bytes(&first.tree, &second.tree, || format!("{}: tree bytes", names))
 }
 
 fn compare_after(first: &After, second: &After, names: &str) -> Check {
@@ -163,11 +230,16 @@ fn compare_after(first: &After, second: &After, names: &str) -> Check {
     same_bytes(&first.out, &second.out, || format!("{}: out bytes", names))
 }
 
-/// What holds of the lent bytes after every call, whichever implementation made it.
-fn check_lent(input: &Input<'_>, after: &After, unchanged: bool) -> Check {
+fn check_read(unchanged: bool) -> Check {
     if !unchanged {
         return Err("a slice lent for reading has changed".to_string());
     }
+    Ok(())
+}
+
+/// What holds of the lent bytes after every call, whichever implementation made it.
+fn check_lent(input: &Input<'_>, after: &After, unchanged: bool) -> Check {
+    check_read(unchanged)?;
     match after.outcome {
         Ok(sent) => check_sent(input, after, sent),
         Err(refused) => check_refused(input, after, refused),

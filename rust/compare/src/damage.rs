@@ -1,6 +1,7 @@
 //! The reference with damage on purpose, for the self-check.
-use crate::calls::{Call, Calls, GivenBound, Lent, Outcome, Reference, Refused};
+use crate::calls::{Call, Calls, GivenBound, GivenItem, Lent, Outcome, Reference, Refused, RunOutcome, TreeCall};
 use crate::guard::{touch_beyond, Side};
+use crate::tree::TreeInput;
 use recon::{Sent, Table};
 
 /// What an undamaged call did, and what was lent to it before.
@@ -47,12 +48,38 @@ pub enum Damage {
     Any(fn(&mut Made<'_, '_>, &mut Outcome)),
     Fingerprint(fn(GivenBound<'_>, GivenBound<'_>, &mut Result<[u8; 16], u8>)),
     Digest(fn(&[u8], &mut [u8; 32])),
-    /// Reads a byte before or behind the out buffer.
+    /// Spoils the tree that a build or an append left which was not refused.
+    Tree(TreeCall, fn(&TreeInput<'_>, &mut [u8])),
+    /// Spoils what a build or an append did, refused or not.
+    AnyTree(fn(&TreeInput<'_>, &mut [u8], &mut Result<(), u8>)),
+    /// Spoils the label of the run from one place of a tree to below another.
+    Run(fn(&[u8], (usize, usize), &mut RunOutcome)),
+    /// Reads a byte before or behind the out buffer, or the tree of a build or an append.
     Beyond(Side),
 }
 
 /// The reference with this damage.
 pub struct Damaged(pub Damage);
+
+impl Damaged {
+    /// A build or an append with damage.
+    fn tree(&self, table: Table<'_>, item: Option<GivenItem<'_>>, tree: &mut [u8]) -> Result<(), u8> {
+        let before = tree.to_vec();
+        let input = TreeInput {
+            table,
+            item,
+            tree: &before,
+        };
+        let mut result = input.make(&Reference, tree);
+        match self.0 {
+            Damage::Tree(of, spoil) if of == input.call() && result.is_ok() => spoil(&input, tree),
+            Damage::AnyTree(spoil) => spoil(&input, tree, &mut result),
+            Damage::Beyond(side) => touch_beyond(tree, side),
+            _ => {}
+        }
+        result
+    }
+}
 
 impl Calls for Damaged {
     fn name(&self) -> &'static str {
@@ -94,5 +121,21 @@ impl Calls for Damaged {
             spoil(message, &mut digest);
         }
         digest
+    }
+
+    fn tree_build(&self, table: Table<'_>, tree: &mut [u8]) -> Result<(), u8> {
+        self.tree(table, None, tree)
+    }
+
+    fn tree_append(&self, table: Table<'_>, item: GivenItem<'_>, tree: &mut [u8]) -> Result<(), u8> {
+        self.tree(table, Some(item), tree)
+    }
+
+    fn tree_label(&self, tree: &[u8], from: usize, to: usize) -> RunOutcome {
+        let mut result = Reference.tree_label(tree, from, to);
+        if let Damage::Run(spoil) = self.0 {
+            spoil(tree, (from, to), &mut result);
+        }
+        result
     }
 }

@@ -1,6 +1,7 @@
 //! What a call is handed and what it leaves, and the making of a call on copies of it.
-use crate::calls::{Call, Calls, GivenBound, Lent, Outcome};
+use crate::calls::{Call, Calls, GivenBound, GivenItem, Lent, Outcome, RunOutcome};
 use crate::guard::{Region, Side, ROOM};
+use crate::tree::{TreeAfter, TreeInput};
 use recon::{Cut, Session, Table};
 
 /// The session that an opening leaves.
@@ -184,6 +185,38 @@ impl Regions {
             ..upper
         };
         Some(calls.fingerprint(table, lower, upper))
+    }
+
+    /// A build or an append in the same way; the flag as well.
+    pub fn tree(&mut self, calls: &dyn Calls, input: &TreeInput<'_>, side: Side) -> Option<(TreeAfter, bool)> {
+        let id = input.item.map_or(&[][..], |item| item.id);
+        if !table_fits(input.table) || id.len() > ROOM || input.tree.len() > ROOM {
+            return None;
+        }
+        let table = place_table(&mut self.times, &mut self.ids, input.table, side);
+        let placed_id = self.message.place(id, side);
+        let tree = self.out.place(input.tree, side);
+        let item = input.item.map(|item| GivenItem { id: placed_id, ..item });
+        let outcome = TreeInput { table, item, ..*input }.make(calls, tree);
+        let unchanged = table.times == input.table.times && table.ids == input.table.ids && placed_id == id;
+        let tree = tree.to_vec();
+        Some((TreeAfter { outcome, tree }, unchanged))
+    }
+
+    /// The label of a run in the same way; the flag as well.
+    pub fn tree_label(
+        &mut self,
+        calls: &dyn Calls,
+        tree: &[u8],
+        (from, to): (usize, usize),
+        side: Side,
+    ) -> Option<(RunOutcome, bool)> {
+        if tree.len() > ROOM {
+            return None;
+        }
+        let placed = self.out.place(tree, side);
+        let result = calls.tree_label(placed, from, to);
+        Some((result, placed == tree))
     }
 
     /// The digest in the same way.

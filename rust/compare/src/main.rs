@@ -23,6 +23,9 @@ mod rng;
 mod run;
 mod self_check;
 mod show;
+mod tree;
+mod tree_faults;
+mod tree_trials;
 mod trials;
 
 use kinds::{kind_named, Label};

@@ -1,7 +1,8 @@
-//! The C calls where they can say more than the safe crate: the session of a refused call, and a prefix at infinity.
+//! The C calls where they can say more than the safe crate: the session and the label beside a refusal, and a prefix at
+//! infinity.
 //! Declared as in include/recon.h.
 use crate::calls::{Call, GivenBound, Lent};
-use recon::{Session, Table};
+use recon::{Label, RunLabel, Session, Table};
 
 #[repr(C)]
 #[derive(Clone, Copy)]
@@ -24,6 +25,19 @@ struct CSessionAnswer {
     session: CSession,
 }
 
+#[repr(C)]
+struct CLabel {
+    sum: [u64; 4],
+    count: u64,
+}
+
+#[repr(C)]
+struct CTreeAnswer {
+    refusal: u64,
+    label: CLabel,
+    visited: u64,
+}
+
 #[rustfmt::skip]
 extern "C" {
     fn recon_open(
@@ -44,6 +58,7 @@ extern "C" {
         lower_infinite: bool, lower_time: u64, lower_prefix: *const u8, lower_prefix_len: usize,
         upper_infinite: bool, upper_time: u64, upper_prefix: *const u8, upper_prefix_len: usize, out: *mut u8,
     ) -> u64;
+    fn recon_tree_label(tree: *const u8, tree_len: usize, from: usize, to: usize) -> CTreeAnswer;
 }
 
 /// The number and the session that a C call answers with.
@@ -127,4 +142,14 @@ pub fn fingerprint(table: Table<'_>, lower: GivenBound<'_>, upper: GivenBound<'_
             upper.infinite, upper.time, upper.prefix.as_ptr(), upper.prefix.len(), out.as_mut_ptr(),
         )
     }
+}
+
+/// The C call for the label of a run: its refusal or 0, and what stands beside it.
+pub fn tree_label(tree: &[u8], from: usize, to: usize) -> (u64, RunLabel) {
+    // SAFETY: see above.
+    let answer = unsafe { recon_tree_label(tree.as_ptr(), tree.len(), from, to) };
+    let CLabel { sum, count } = answer.label;
+    let label = Label { sum, count };
+    let visited = answer.visited;
+    (answer.refusal, RunLabel { label, visited })
 }

@@ -1,5 +1,5 @@
 //! Runs the cases of all kinds, or one of them, on the library and the reference, and prints what was compared.
-use crate::calls::{Call, Library, Reference};
+use crate::calls::{Call, Library, Reference, TreeCall};
 use crate::compare::{Comparer, Counts};
 use crate::kinds::{Kind, Label, KINDS};
 use std::time::{Duration, Instant};
@@ -76,38 +76,80 @@ fn print_difference(label: &Label, text: &str) {
     );
 }
 
-/// How often each call gave each number, and what the sessions came to.
-fn print_totals(totals: &Counts) {
-    for call in Call::ALL {
-        let numbers = &totals.numbers[call as usize];
-        let refusals: Vec<String> = (1..=12)
-            .filter(|&number| call.can_refuse_by(number))
-            .map(|number| format!("{}: {}", number, numbers[usize::from(number)]))
+/// A call, the numbers that it can refuse by, and how often it gave each number, 0 for no refusal.
+struct Numbers<'a> {
+    name: &'static str,
+    refusals: Vec<u8>,
+    counts: &'a [u64],
+}
+
+impl<'a> Numbers<'a> {
+    fn new(name: &'static str, counts: &'a [u64], can_refuse_by: impl Fn(u8) -> bool) -> Numbers<'a> {
+        Numbers {
+            name,
+            refusals: (1..=u8::MAX).filter(|&number| can_refuse_by(number)).collect(),
+            counts,
+        }
+    }
+
+    fn print(&self) {
+        let refusals = self.refusals.iter();
+        let counts: Vec<String> = refusals
+            .map(|&number| format!("{}: {}", number, self.counts[usize::from(number)]))
             .collect();
+        let (name, accepted) = (self.name, self.counts[0]);
         println!(
-            "{:<7}not refused: {}; refused by {}",
-            call.name(),
-            numbers[0],
-            refusals.join(", ")
+            "{:<12}not refused: {}; refused by {}",
+            name,
+            accepted,
+            counts.join(", ")
         );
     }
+
+    /// Whether every number that the call can give has come up and no other.
+    fn came_up(&self) -> bool {
+        (1..self.counts.len() as u8).all(|number| {
+            let seen = self.counts[usize::from(number)] > 0;
+            let is_right = seen == self.refusals.contains(&number);
+            if !is_right {
+                println!("FAILED: {} gave refusal {}: {}", self.name, number, seen);
+            }
+            is_right
+        })
+    }
+}
+
+/// Those of all calls whose numbers are counted.
+fn numbers(totals: &Counts) -> Vec<Numbers<'_>> {
+    let calls = Call::ALL.iter().map(|&call| {
+        let counts = &totals.numbers[call as usize];
+        Numbers::new(call.name(), counts, |number| call.can_refuse_by(number))
+    });
+    let tree_calls = TreeCall::ALL.iter().map(|&call| {
+        let counts = &totals.tree_numbers[call as usize];
+        Numbers::new(call.name(), counts, |number| call.can_refuse_by(number))
+    });
+    calls.chain(tree_calls).collect()
+}
+
+/// How often each call gave each number, and what sessions and trees came to.
+fn print_totals(totals: &Counts) {
+    numbers(totals).iter().for_each(Numbers::print);
     println!(
         "{} sessions done by {} takes, {} of them late or repeated; {} ended with the last reply that L allows; \
          {} differences unreported, all in colliding ranges",
         totals.sessions, totals.takes, totals.late, totals.full_rows, totals.excused
     );
+    println!(
+        "{} runs of trees with the label summed item by item; {} appends with the tree built afresh",
+        totals.summed, totals.rebuilt
+    );
 }
 
-/// Whether every number that a call can give has come up and no other, and all that sessions are meant to show.
+/// Whether every number that a call can give has come up and no other, and all that sessions and trees are meant to show.
 fn all_came_up(totals: &Counts) -> bool {
-    for call in Call::ALL {
-        for number in 1..=12 {
-            let seen = totals.numbers[call as usize][usize::from(number)] > 0;
-            if seen != call.can_refuse_by(number) {
-                println!("FAILED: {} gave refusal {}: {}", call.name(), number, seen);
-                return false;
-            }
-        }
+    if !numbers(totals).iter().all(Numbers::came_up) {
+        return false;
     }
     let shown = [
         totals.sessions,
@@ -115,9 +157,11 @@ fn all_came_up(totals: &Counts) -> bool {
         totals.full_rows,
         totals.excused,
         totals.guarded,
+        totals.summed,
+        totals.rebuilt,
     ];
     if shown.contains(&0) {
-        println!("FAILED: something never came up that the sessions are meant to show");
+        println!("FAILED: something never came up that the sessions and trees are meant to show");
         return false;
     }
     true

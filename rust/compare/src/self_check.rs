@@ -1,9 +1,9 @@
 //! Whether the tests can fail: damages one or both sides on purpose, and asks that each damage is found.
 use crate::calls::{Calls, Library};
 use crate::compare::Comparer;
-use crate::damage::Damaged;
+use crate::damage::{Damage, Damaged};
 use crate::kinds::{kind_named, Label};
-use crate::trials::{both_sided, one_sided, Trial, BEYOND};
+use crate::trials::{both_sided, one_sided, Beyond, Trial, BEYOND};
 use std::process::Command;
 
 /// Whether each damage was found.
@@ -21,8 +21,8 @@ pub fn all(seed: u64) -> bool {
         missed += u32::from(!found(trial, &Damaged(trial.damage), &Damaged(trial.damage), seed));
     }
     println!("the damaged reference in a process of its own:");
-    for (name, _) in BEYOND {
-        missed += u32::from(!guard_found(name, seed));
+    for beyond in &BEYOND {
+        missed += u32::from(!guard_found(beyond, seed));
     }
     let damages = one_sided.len() + both_sided.len() + BEYOND.len();
     println!("{} damages, {} not found", damages, missed);
@@ -48,19 +48,19 @@ fn found(trial: &Trial, first: &dyn Calls, second: &dyn Calls, seed: u64) -> boo
 }
 
 /// Whether a process that touches memory beyond a slice ends with 1 and the command that runs the case again.
-fn guard_found(name: &str, seed: u64) -> bool {
+fn guard_found(beyond: &Beyond, seed: u64) -> bool {
     let program = std::env::current_exe().expect("the program has a path");
     let output = Command::new(program)
-        .args(["--guard-damage", name, "--seed", &seed.to_string()])
+        .args(["--guard-damage", beyond.name, "--seed", &seed.to_string()])
         .output();
     let output = output.expect("the program runs");
     let text = String::from_utf8_lossy(&output.stdout).into_owned();
     let found = output.status.code() == Some(1) && text.contains("run again: ") && text.contains(" --case ");
     let verdict = if found { "found" } else { "NOT FOUND" };
     println!(
-        "  {}: a byte {} the out buffer is read: {}",
+        "  {}: a byte {} is read: {}",
         verdict,
-        name,
+        beyond.name,
         text.trim_end().replace('\n', "; ")
     );
     found
@@ -68,12 +68,12 @@ fn guard_found(name: &str, seed: u64) -> bool {
 
 /// The process of its own: it must not come back from its first case.
 pub fn guard_damage(name: &str, seed: u64) -> bool {
-    let (_, damage) = BEYOND
-        .into_iter()
-        .find(|(known, _)| *known == name)
+    let beyond = BEYOND
+        .iter()
+        .find(|beyond| beyond.name == name)
         .expect("a known damage");
-    let damaged = Damaged(damage);
+    let damaged = Damaged(Damage::Beyond(beyond.side));
     let mut comparer = Comparer::new(&damaged, &Library);
-    let kind = kind_named("tables").expect("a kind");
+    let kind = kind_named(beyond.kind).expect("a kind");
     Label::new(kind, seed, 0, false).run(&mut comparer).is_ok()
 }

@@ -1,6 +1,7 @@
 //! Inputs as text, in full.
-use crate::calls::{Call, GivenBound};
+use crate::calls::{Call, GivenBound, TreeCall};
 use crate::input::Input;
+use crate::tree::TreeInput;
 use recon::Table;
 use std::fmt::Write;
 
@@ -60,4 +61,17 @@ pub fn fingerprint(of: Table<'_>, lower: GivenBound<'_>, upper: GivenBound<'_>) 
         bound(lower),
         bound(upper)
     )
+}
+
+pub fn tree(input: &TreeInput<'_>) -> String {
+    let mut text = format!("{}\n{}", input.call().name(), table(input.table));
+    if let Some(item) = input.item {
+        text += &format!("  item: {}, id of {}\n", item.time, bytes(item.id));
+    }
+    text + &format!("  tree: {}\n", bytes(input.tree))
+}
+
+pub fn tree_run(tree: &[u8], from: usize, to: usize) -> String {
+    let name = TreeCall::Run.name();
+    format!("{} from {} to {}\n  tree: {}\n", name, from, to, bytes(tree))
 }

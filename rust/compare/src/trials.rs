@@ -2,6 +2,7 @@
 use crate::calls::{Call, Outcome};
 use crate::damage::{Damage, Made};
 use crate::guard::Side;
+use crate::tree_trials;
 use recon::{Cut, Sent, Table, MAX_ITEMS};
 
 /// A damage, the kind of cases that has to find it, and words of what that kind has to say.
@@ -12,7 +13,7 @@ pub struct Trial {
     pub damage: Damage,
 }
 
-fn trial(kind: &'static str, words: &'static str, name: impl Into<String>, damage: Damage) -> Trial {
+pub fn trial(kind: &'static str, words: &'static str, name: impl Into<String>, damage: Damage) -> Trial {
     let name = name.into();
     Trial {
         kind,
@@ -37,7 +38,7 @@ fn take(spoil: SpoilSent) -> Damage {
 }
 
 /// Turns a bit of a byte, if there is one at this place.
-fn flip(bytes: &mut [u8], at: usize) {
+pub fn flip(bytes: &mut [u8], at: usize) {
     if let Some(byte) = bytes.get_mut(at) {
         *byte ^= 1;
     }
@@ -58,6 +59,7 @@ pub fn one_sided() -> Vec<Trial> {
         wrong_versions(),
         wrong_room(),
         wrong_hashes(),
+        tree_trials::one_sided(),
     ];
     lists.into_iter().flatten().chain(renumbered).collect()
 }
@@ -315,6 +317,7 @@ fn wrong_fingerprint() -> Damage {
 pub fn both_sided() -> Vec<Trial> {
     let both = "both say";
     let mut trials = wrong_reports();
+    trials.extend(tree_trials::both_sided());
     trials.extend([
         trial("examples", "differ at 0", "open writes another version", open(|made, _| flip(made.lent.out, 0))),
         trial("examples", both, "a bad bound is refused by 10", Damage::Renumber(9, 10)),
@@ -394,8 +397,20 @@ fn keep_first(made: &mut Made<'_, '_>, sent: &mut Sent) {
     }
 }
 
-/// Damages that touch memory beyond the out buffer.
-pub const BEYOND: [(&str, Damage); 2] = [
-    ("behind", Damage::Beyond(Side::End)),
-    ("before", Damage::Beyond(Side::Start)),
+/// A damage that touches memory beyond a buffer, in the first case of a kind.
+pub struct Beyond {
+    pub name: &'static str,
+    pub kind: &'static str,
+    pub side: Side,
+}
+
+const fn beyond(name: &'static str, kind: &'static str, side: Side) -> Beyond {
+    Beyond { name, kind, side }
+}
+
+pub const BEYOND: [Beyond; 4] = [
+    beyond("behind the out buffer", "tables", Side::End),
+    beyond("before the out buffer", "tables", Side::Start),
+    beyond("behind the tree", "trees", Side::End),
+    beyond("before the tree", "trees", Side::Start),
 ];

@@ -223,8 +223,9 @@ fn a_run_is_refused_for_the_length_of_the_tree() {
         .collect();
     assert_eq!(accepted, [40, 120, 280, 600, 1240]);
     for length in [0, 39, 80, 160, 200] {
-        assert_eq!(label_of_run(&bytes[..length], 0..1), Err(Refusal::WrongTree));
-        assert_eq!(label_of_run(&bytes[..length], 1..0), Err(Refusal::WrongTree));
+        for (from, to) in [(0, 1), (1, 0), (0, usize::MAX)] {
+            assert_eq!(label_of_run(&bytes[..length], from..to), Err(Refusal::WrongTree));
+        }
     }
 }
 
@@ -310,12 +311,9 @@ fn the_largest_tree_is_full() {
     assert_eq!(append_to_tree(first(MAX_ITEMS - 1), last, &[7; 32], &mut tree), Ok(()));
     let whole = label_of_run(&tree, 0..MAX_ITEMS).unwrap();
     assert_eq!((whole.label.count, whole.visited), (1 << 20, 1));
-    // 07 in 32 bytes, times 2^20.
-    assert_eq!(whole.label.sum[0], 0x0707_0707_0707_0707 << 20);
-    assert_eq!(
-        whole.label.sum[3],
-        0x0707_0707_0707_0707 << 20 | 0x0707_0707_0707_0707 >> 44
-    );
+    // 32 bytes 07, moved up by five hex digits.
+    let [low, .., high] = whole.label.sum;
+    assert_eq!((low, high), (0x7070_7070_7070_0000, 0x7070_7070_7070_7070));
     let full = first(MAX_ITEMS);
     assert_eq!(
         append_to_tree(full, last + 1, &[7; 32], &mut tree),

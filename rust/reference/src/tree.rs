@@ -117,8 +117,8 @@ fn put(tree: &mut [u8], at: usize, label: Label) {
     tree[LABEL * at..LABEL * (at + 1)].copy_from_slice(&label.bytes());
 }
 
-/// Visits the label that stands at `at` and is over these places. A run that is empty or reversed has no place in
-/// common with any, so that all are outside it; places that do not exist are in no half.
+/// Visits the label that stands at `at` and is over these places. "A run is cut to the places that exist", as others are
+/// in no half. "An empty or reversed run" shares no place with any, so the whole is outside it and isn't opened.
 fn visit(tree: &[u8], at: usize, places: Range<usize>, run: &Range<usize>) -> RunLabel {
     let shared = places.start.max(run.start)..places.end.min(run.end);
     // "A half wholly inside or outside the run counts one and isn't opened".

@@ -1,15 +1,16 @@
 //! The worked examples of the specification by number, and others that show how it is read.
 use super::Case;
-use crate::calls::{Call, GivenBound};
+use crate::calls::{Call, GivenBound, GivenItem};
 use crate::compare::{same_bytes, Check};
 use crate::exchange::{End, Ends, Exchange};
 use crate::generate::{from_text, id_from, Item, OwnedTable};
 use crate::input::{After, NEW_SESSION};
+use crate::tree::TreeInput;
 use recon::{Cut, Session};
 
 type Example = fn(&mut Case<'_, '_>) -> Check;
 
-const EXAMPLES: [(&str, Example); 12] = [
+const EXAMPLES: [(&str, Example); 16] = [
     ("E1, varints", varints),
     ("E3, the empty table", empty_table),
     ("E4, different times", |case| opening(case, [5, 5, 7], "08 00")),
@@ -18,6 +19,10 @@ const EXAMPLES: [(&str, Example); 12] = [
     ("E10, fingerprints", fingerprints),
     ("E11, an item that they lack", one_item),
     ("E12, another version", other_version),
+    ("E14, the tree over two ids", two_ids),
+    ("E15, k by the number of items", tree_lengths),
+    ("E16, labels visited", labels_visited),
+    ("a tree not from a build", other_tree),
     ("an own id under another range", other_range),
     ("an id under two times", two_times),
     ("skips in answers", skips),
@@ -274,6 +279,56 @@ fn other_version(case: &mut Case<'_, '_>) -> Check {
     let input = end(&none, 2, 2).input(Call::Take).with_message(&message).with_out(&out);
     case.expect(&input.with_state(NEW_SESSION, &[], &[]), 6)?;
     Ok(())
+}
+
+fn two_ids(case: &mut Case<'_, '_>) -> Check {
+    let two = OwnedTable::of(&[(3, [0xff; 32]), (4, id_from(&[1]))]);
+    let (table, item, tree) = (two.lent(), None, &case.rng.bytes(120)[..]);
+    let after = case.expect_tree(&TreeInput { table, item, tree }, 0)?;
+    let labels = "00*32 02 00*7 FF*32 01 00*7 01 00*31 01 00*7";
+    same(&after.tree, &from_text(labels), "the tree and the expected one")
+}
+
+/// k is told by the one length that a build does not refuse.
+fn tree_lengths(case: &mut Case<'_, '_>) -> Check {
+    let items: Vec<Item> = (1..10).map(|i| (i, id_from(&[i as u8]))).collect();
+    for (count, k) in [(0, 0), (1, 0), (2, 1), (3, 2), (4, 2), (5, 3), (8, 3), (9, 4)] {
+        let own = OwnedTable::of(&items[..count]);
+        for (other, length) in [40, 120, 280, 600, 1_240, 2_520].into_iter().enumerate() {
+            let (table, item, tree) = (own.lent(), None, &case.rng.bytes(length)[..]);
+            case.expect_tree(&TreeInput { table, item, tree }, if other == k { 0 } else { 13 })?;
+        }
+    }
+    Ok(())
+}
+
+fn labels_visited(case: &mut Case<'_, '_>) -> Check {
+    let tree = case.rng.bytes(600);
+    let runs = [(0, 8), (0, 5), (1, 7), (3, 4), (8, 9), (5, 2), (3, 3), (0, usize::MAX)];
+    for ((from, to), visited) in runs.into_iter().zip([1, 7, 11, 7, 1, 1, 1, 1]) {
+        let told = case.comparer.tree_label(&tree, from, to)?;
+        match told {
+            Ok(run) if run.visited == visited => {}
+            told => return Err(format!("{} labels visited expected, both say {:?}", visited, told)),
+        }
+    }
+    Ok(())
+}
+
+/// All bytes FF: counts are added modulo 2^64, and an append makes the labels above it afresh.
+fn other_tree(case: &mut Case<'_, '_>) -> Check {
+    let tree = [0xff; 280];
+    let told = case.comparer.tree_label(&tree, 1, 3)?;
+    if !matches!(told, Ok(run) if run.label.count == u64::MAX - 1 && run.label.sum[0] == u64::MAX - 1) {
+        return Err(format!("2^64 - 2 twice expected, both say {:?}", told));
+    }
+    let own = table(&[(5, &[1]), (5, &[2]), (7, &[3])]);
+    let (time, id) = (8, &id_from(&[4])[..]);
+    let item = Some(GivenItem { time, id });
+    let (table, tree) = (own.lent(), &tree[..]);
+    let after = case.expect_tree(&TreeInput { table, item, tree }, 0)?;
+    let labels = "02 00*31 FF*8 FF*40 03 00*39 FF*120 04 00*31 01 00*7";
+    same(&after.tree, &from_text(labels), "the tree and the expected one")
 }
 
 /// The item is marked, as its range does not list its id, and the id is needed, as its range has no such item.

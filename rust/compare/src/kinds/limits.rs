@@ -1,18 +1,20 @@
 //! Tables of 1,048,576 items and one more, and long lists.
 use super::{expect_number, Case};
-use crate::calls::{Call, GivenBound};
+use crate::calls::{Call, GivenBound, GivenItem};
 use crate::compare::Check;
 use crate::exchange::{End, Ends, Exchange};
 use crate::generate::OwnedTable;
 use crate::input::NEW_SESSION;
+use crate::tree::TreeInput;
 use recon::{Cut, Table, MAX_ITEMS};
 
 type Limit = fn(&mut Case<'_, '_>) -> Check;
 
-const LIMITS: [Limit; 7] = [
+const LIMITS: [Limit; 8] = [
     openings,
     refusals,
     fingerprints,
+    trees,
     few_differences,
     all_ours,
     all_theirs,
@@ -92,6 +94,29 @@ fn fingerprints(case: &mut Case<'_, '_>) -> Check {
         };
         let told = case.comparer.fingerprint(table, GivenBound::WHOLE)?;
         expect_number(told.err().unwrap_or(0), number)?;
+    }
+    Ok(())
+}
+
+/// A tree of the largest size is full: 13, but 2 for an item that is not above the last, and 1 for one item more.
+fn trees(case: &mut Case<'_, '_>) -> Check {
+    let items = table(case, MAX_ITEMS + 1);
+    let tree = vec![0x5a; 40 * (2 * MAX_ITEMS - 1)];
+    let last = items.times[MAX_ITEMS];
+    for (count, build, append, equal) in [(MAX_ITEMS, 0, 13, 2), (MAX_ITEMS + 1, 1, 1, 1)] {
+        let table = Table {
+            times: &items.times[..count],
+            ids: &items.ids[..32 * count],
+        };
+        let lent = |item| TreeInput {
+            table,
+            item,
+            tree: &tree,
+        };
+        let given = |time, id| lent(Some(GivenItem { time, id }));
+        case.expect_tree(&lent(None), build)?;
+        case.expect_tree(&given(last + 1, &[0; 32]), append)?;
+        case.expect_tree(&given(table.times[count - 1], &table.ids[32 * (count - 1)..]), equal)?;
     }
     Ok(())
 }

@@ -9,12 +9,14 @@ mod refusals;
 mod room;
 mod sessions;
 mod tables;
+mod trees;
 mod versions;
 
 use crate::compare::{Check, Comparer};
 use crate::guard;
 use crate::input::{After, Input};
 use crate::rng::Rng;
+use crate::tree::{TreeAfter, TreeInput};
 use std::panic::{catch_unwind, AssertUnwindSafe};
 
 /// One case: all that it does is fixed by its kind, its seed, its index and whether it is of the long run.
@@ -29,6 +31,13 @@ impl Case<'_, '_> {
     /// Makes a call with both implementations; its number has to be this one, 0 for no refusal.
     pub fn expect(&mut self, input: &Input<'_>, number: u8) -> Check<After> {
         let after = self.comparer.call(input)?;
+        expect_number(after.number(), number)?;
+        Ok(after)
+    }
+
+    /// The same for a build or an append.
+    pub fn expect_tree(&mut self, input: &TreeInput<'_>, number: u8) -> Check<TreeAfter> {
+        let after = self.comparer.tree(input)?;
         expect_number(after.number(), number)?;
         Ok(after)
     }
@@ -64,7 +73,7 @@ macro_rules! kind {
     };
 }
 
-pub static KINDS: [Kind; 11] = [
+pub static KINDS: [Kind; 12] = [
     kind!(examples),
     kind!(refusals),
     kind!(versions),
@@ -76,6 +85,7 @@ pub static KINDS: [Kind; 11] = [
     kind!(limits),
     kind!(lists),
     kind!(digests),
+    kind!(trees),
 ];
 
 pub fn kind_named(name: &str) -> Option<&'static Kind> {

@@ -1,0 +1,190 @@
+//! What a build or an append is handed and what it leaves, and what holds of trees and runs by the specification alone.
+use crate::calls::{Calls, GivenItem, TreeCall};
+use crate::compare::{same_bytes, Check};
+use crate::generate::Id;
+use recon::{Label, RunLabel, Table, LABEL_BYTES};
+
+/// What a build or an append is handed.
+#[derive(Clone, Copy)]
+pub struct TreeInput<'a> {
+    pub table: Table<'a>,
+    /// The item of an append; a build has none.
+    pub item: Option<GivenItem<'a>>,
+    pub tree: &'a [u8],
+}
+
+/// What it answers, and the tree afterwards.
+pub struct TreeAfter {
+    pub outcome: Result<(), u8>,
+    pub tree: Vec<u8>,
+}
+
+impl TreeAfter {
+    /// The number of the refusal, 0 for none.
+    pub fn number(&self) -> u8 {
+        self.outcome.err().unwrap_or(0)
+    }
+}
+
+impl TreeInput<'_> {
+    pub fn call(&self) -> TreeCall {
+        match self.item {
+            None => TreeCall::Build,
+            Some(_) => TreeCall::Append,
+        }
+    }
+
+    /// Makes the call on a tree that has the same bytes.
+    pub fn make(&self, calls: &dyn Calls, tree: &mut [u8]) -> Result<(), u8> {
+        match self.item {
+            None => calls.tree_build(self.table, tree),
+            Some(item) => calls.tree_append(self.table, item, tree),
+        }
+    }
+
+    /// Makes the call on a copy of the tree.
+    pub fn run(&self, calls: &dyn Calls) -> TreeAfter {
+        let mut tree = self.tree.to_vec();
+        let outcome = self.make(calls, &mut tree);
+        TreeAfter { outcome, tree }
+    }
+
+    /// A refused call leaves the tree as it was.
+    pub fn check_refused(&self, after: &TreeAfter) -> Check {
+        match after.outcome {
+            Ok(()) => Ok(()),
+            Err(number) => same_bytes(self.tree, &after.tree, || {
+                format!("refused by {}: tree bytes before and afterwards", number)
+            }),
+        }
+    }
+}
+
+/// The places of the tree over so many items: 1, 2, 4, 8 ..
+pub fn places_over(items: usize) -> usize {
+    (0..)
+        .map(|k| 1 << k)
+        .find(|&places| places >= items)
+        .expect("a power of two")
+}
+
+/// The bytes of a tree of so many places.
+pub fn bytes_of(places: usize) -> usize {
+    LABEL_BYTES * (2 * places - 1)
+}
+
+/// The bytes of the label that stands at a place of the tree, level by level.
+pub fn stored(tree: &[u8], at: usize) -> &[u8] {
+    &tree[LABEL_BYTES * at..LABEL_BYTES * (at + 1)]
+}
+
+/// What holds of the label of a run in any tree: how many labels are visited, and the label of no place and of all.
+pub fn check_run(tree: &[u8], from: usize, to: usize, run: RunLabel) -> Check {
+    let places = (tree.len() / LABEL_BYTES + 1) / 2;
+    let to = to.min(places);
+    let (visited, most) = (visits(places, from, to), 4 * (u64::from(places.trailing_zeros()) + 1));
+    if run.visited > most {
+        return Err(format!("{} labels visited, at most {} expected", run.visited, most));
+    }
+    let label = if from >= to {
+        Label::default()
+    } else if (from, to) == (0, places) {
+        Sum::of_stored(stored(tree, 0)).label()
+    } else {
+        run.label
+    };
+    let expected = RunLabel { label, visited };
+    if run != expected {
+        return Err(format!("{:?} expected, both say {:?}", expected, run));
+    }
+    Ok(())
+}
+
+/// How many labels a run of places that exist visits, told level by level: the whole, and two for each that is opened.
+/// Those are opened inside of which the run begins or ends.
+fn visits(places: usize, from: usize, to: usize) -> u64 {
+    if from >= to {
+        return 1;
+    }
+    let sizes = (0..places.trailing_zeros()).map(|level| places >> level);
+    let opened = sizes.map(|size| {
+        let (begins, ends) = (from % size > 0, to % size > 0);
+        let is_same = begins && ends && from / size == to / size;
+        u64::from(begins) + u64::from(ends) - u64::from(is_same)
+    });
+    1 + 2 * opened.sum::<u64>()
+}
+
+/// A label, whose sum is added up byte by byte.
+#[derive(Clone, Default)]
+pub struct Sum {
+    bytes: Id,
+    count: u64,
+}
+
+impl Sum {
+    /// The label that has these bytes in a tree.
+    pub fn of_stored(bytes: &[u8]) -> Sum {
+        let mut sum = Sum::default();
+        let (id, count) = bytes.split_at(32);
+        let count = count.iter().rev().fold(0, |count, &byte| count << 8 | u64::from(byte));
+        sum.add(id, count);
+        sum
+    }
+
+    /// The bytes that it has in a tree.
+    pub fn stored(&self) -> Vec<u8> {
+        [&self.bytes[..], &self.count.to_le_bytes()].concat()
+    }
+
+    /// Adds 32 bytes of sum, least significant first, and a count.
+    pub fn add(&mut self, bytes: &[u8], count: u64) {
+        let mut carry = 0;
+        for (own, byte) in self.bytes.iter_mut().zip(bytes) {
+            let total = u16::from(*own) + u16::from(*byte) + carry;
+            *own = total as u8;
+            carry = total >> 8;
+        }
+        self.count = self.count.wrapping_add(count);
+    }
+
+    pub fn add_sum(&mut self, other: &Sum) {
+        self.add(&other.bytes, other.count);
+    }
+
+    pub fn label(&self) -> Label {
+        let word = |i: usize| {
+            (0..8)
+                .rev()
+                .fold(0, |word, byte| word << 8 | u64::from(self.bytes[8 * i + byte]))
+        };
+        Label {
+            sum: [word(0), word(1), word(2), word(3)],
+            count: self.count,
+        }
+    }
+}
+
+/// What an append to any tree leaves: the label of its id at its place, those above it from their two halves, and all
+/// others as they were.
+pub fn appended(before: &[u8], place: usize, id: &Id) -> Vec<u8> {
+    let mut tree = before.to_vec();
+    let put = |tree: &mut [u8], at: usize, sum: &Sum| {
+        tree[LABEL_BYTES * at..LABEL_BYTES * (at + 1)].copy_from_slice(&sum.stored());
+    };
+    // A level of 2^i labels stands behind 2^i - 1 others.
+    let mut level = (before.len() / LABEL_BYTES + 1) / 2;
+    let mut in_level = place;
+    let mut sum = Sum::default();
+    sum.add(id, 1);
+    put(&mut tree, level - 1 + in_level, &sum);
+    while level > 1 {
+        let left = level - 1 + in_level / 2 * 2;
+        let mut sum = Sum::of_stored(stored(&tree, left));
+        sum.add_sum(&Sum::of_stored(stored(&tree, left + 1)));
+        level /= 2;
+        in_level /= 2;
+        put(&mut tree, level - 1 + in_level, &sum);
+    }
+    tree
+}

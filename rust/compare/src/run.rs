@@ -146,7 +146,7 @@ fn print_totals(totals: &Counts) {
     );
 }
 
-/// Whether every number that a call can give has come up and no other, and all that sessions and trees are meant to show.
+/// Whether every number that a call can give has come up and no other, and all that sessions and trees are to show.
 fn all_came_up(totals: &Counts) -> bool {
     if !numbers(totals).iter().all(Numbers::came_up) {
         return false;

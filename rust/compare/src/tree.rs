@@ -78,26 +78,48 @@ pub fn stored(tree: &[u8], at: usize) -> &[u8] {
     &tree[LABEL_BYTES * at..LABEL_BYTES * (at + 1)]
 }
 
-/// What holds of the label of a run in any tree: how many labels are visited, and the label of no place and of all.
+/// The places of a tree.
+pub fn places_of(tree: &[u8]) -> usize {
+    (tree.len() / LABEL_BYTES + 1) / 2
+}
+
+/// What holds of the label of a run in any tree. Both of its parts are told level by level, not from the whole down.
 pub fn check_run(tree: &[u8], from: usize, to: usize, run: RunLabel) -> Check {
-    let places = (tree.len() / LABEL_BYTES + 1) / 2;
-    let to = to.min(places);
-    let (visited, most) = (visits(places, from, to), 4 * (u64::from(places.trailing_zeros()) + 1));
+    let places = places_of(tree);
+    let most = 4 * (u64::from(places.trailing_zeros()) + 1);
     if run.visited > most {
         return Err(format!("{} labels visited, at most {} expected", run.visited, most));
     }
-    let label = if from >= to {
-        Label::default()
-    } else if (from, to) == (0, places) {
-        Sum::of_stored(stored(tree, 0)).label()
-    } else {
-        run.label
+    let to = to.min(places);
+    let expected = RunLabel {
+        label: label_by_levels(tree, from, to),
+        visited: visits(places, from, to),
     };
-    let expected = RunLabel { label, visited };
     if run != expected {
         return Err(format!("{:?} expected, both say {:?}", expected, run));
     }
     Ok(())
+}
+
+/// The label of a run of places that exist, from the lowest level up: of each level those labels are added which are
+/// inside the run while the one above them is not.
+fn label_by_levels(tree: &[u8], mut from: usize, mut to: usize) -> Label {
+    let mut sum = Sum::default();
+    // A level of so many labels stands behind one fewer.
+    let mut level = places_of(tree);
+    let mut add = |at| sum.add_sum(&Sum::of_stored(stored(tree, at)));
+    while from < to {
+        if from % 2 == 1 {
+            add(level - 1 + from);
+        }
+        if to % 2 == 1 {
+            add(level - 1 + to - 1);
+        }
+        from = (from + 1) / 2;
+        to /= 2;
+        level /= 2;
+    }
+    sum.label()
 }
 
 /// How many labels a run of places that exist visits, told level by level: the whole, and two for each that is opened.
@@ -172,8 +194,8 @@ pub fn appended(before: &[u8], place: usize, id: &Id) -> Vec<u8> {
     let put = |tree: &mut [u8], at: usize, sum: &Sum| {
         tree[LABEL_BYTES * at..LABEL_BYTES * (at + 1)].copy_from_slice(&sum.stored());
     };
-    // A level of 2^i labels stands behind 2^i - 1 others.
-    let mut level = (before.len() / LABEL_BYTES + 1) / 2;
+    // A level of so many labels stands behind one fewer.
+    let mut level = places_of(before);
     let mut in_level = place;
     let mut sum = Sum::default();
     sum.add(id, 1);

@@ -48,8 +48,8 @@ impl TreeDraft {
         (table.times.last().copied().unwrap_or(0), id)
     }
 
-    /// Puts items before the others, as many as there are free places; the tree has the right length still. Whatever was
-    /// wrong with the table remains so.
+    /// Puts items before the others, as many as there are free places; the tree has the right length still. Whatever
+    /// was wrong with the table remains so.
     fn fill(&mut self) {
         let count = self.draft.table.count();
         let free = places_over(count) - count;

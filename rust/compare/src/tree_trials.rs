@@ -1,7 +1,7 @@
 //! The damages of the self-check in the calls on trees of labels.
-use crate::calls::{RunOutcome, TreeCall};
+use crate::calls::{Calls, Reference, RunOutcome, TreeCall};
 use crate::damage::Damage;
-use crate::tree::{bytes_of, places_over, stored, Sum, TreeInput};
+use crate::tree::{bytes_of, places_of, places_over, stored, Sum, TreeInput};
 use crate::trials::{flip, trial, Trial};
 use recon::{RunLabel, LABEL_BYTES, MAX_ITEMS};
 
@@ -19,11 +19,6 @@ fn append(spoil: fn(&TreeInput<'_>, &mut [u8])) -> Damage {
     Damage::Tree(TreeCall::Append, spoil)
 }
 
-/// The places of a tree.
-fn places_of(tree: &[u8]) -> usize {
-    (tree.len() / LABEL_BYTES + 1) / 2
-}
-
 /// Copies the label that stands at a place, level by level, if there is one.
 fn put_back(tree: &mut [u8], before: &[u8], at: usize) {
     let bytes = LABEL_BYTES * at..LABEL_BYTES * (at + 1);
@@ -37,7 +32,7 @@ fn wrong_trees() -> Vec<Trial> {
     let (kind, words) = ("trees", "tree bytes differ");
     vec![
         trial(kind, words, "an append leaves the label of the whole as it was", append(stale_whole)),
-        trial(kind, words, "an append adds to the label of the whole instead of making it afresh", append(add_to_whole)),
+        trial(kind, words, "an append adds to the label of the whole", append(add_to_whole)),
         trial(kind, words, "an append changes the label before its place", append(|input, tree| {
             let place = places_of(tree) - 1 + input.table.times.len();
             flip(tree, (LABEL_BYTES * place).wrapping_sub(1));
@@ -47,15 +42,21 @@ fn wrong_trees() -> Vec<Trial> {
                 put_back(tree, input.tree, tree.len() / LABEL_BYTES - 1);
             }
         })),
-        trial(kind, words, "a build lays the two halves of the whole the other way round", build(|_, tree| {
-            if let Some(halves) = tree.get_mut(LABEL_BYTES..3 * LABEL_BYTES) {
-                halves.rotate_left(LABEL_BYTES);
-            }
-        })),
-        trial(kind, words, "a build lays the count before the sum", build(|_, tree| {
-            tree.chunks_exact_mut(LABEL_BYTES).for_each(|label| label.rotate_left(32));
-        })),
+        trial(kind, words, "a build lays two halves the other way round", build(swap_halves)),
+        trial(kind, words, "a build lays the count before the sum", build(count_first)),
     ]
+}
+
+/// Those of the whole.
+fn swap_halves(_: &TreeInput<'_>, tree: &mut [u8]) {
+    if let Some(halves) = tree.get_mut(LABEL_BYTES..3 * LABEL_BYTES) {
+        halves.rotate_left(LABEL_BYTES);
+    }
+}
+
+fn count_first(_: &TreeInput<'_>, tree: &mut [u8]) {
+    tree.chunks_exact_mut(LABEL_BYTES)
+        .for_each(|label| label.rotate_left(32));
 }
 
 fn stale_whole(input: &TreeInput<'_>, tree: &mut [u8]) {
@@ -85,10 +86,8 @@ fn wrong_runs() -> Vec<Trial> {
             }
         })),
         trial(kind, words, "an empty run inside the tree is opened", opens_empty_run()),
-        trial(kind, words, "a reversed run is told the other way round", Damage::Run(|tree, (from, to), result| {
-            if from > to && from < places_of(tree) {
-                *result = Ok(RunLabel { label: Sum::of_stored(stored(tree, 0)).label(), visited: 1 });
-            }
+        trial(kind, words, "a reversed run is taken the other way round", Damage::Run(|tree, (from, to), result| {
+            *result = Reference.tree_label(tree, from.min(to), from.max(to));
         })),
         trial(kind, words, "a run is not cut to the places", Damage::Run(|tree, (from, to), result| {
             if let (Ok(run), true) = (result, from == 0 && to > places_of(tree)) {
@@ -96,19 +95,13 @@ fn wrong_runs() -> Vec<Trial> {
             }
         })),
         trial(kind, words, "the counts of two halves are not added", no_counts_added()),
-        trial(kind, words, "counts are added up to 2^64 - 1", Damage::Run(|tree, (from, to), result| {
-            // Of four places the two in the middle, which are two labels of the lowest level.
-            if let (Ok(run), 280, (1, 3)) = (result, tree.len(), (from, to)) {
-                let counts = [4, 5].map(|at| Sum::of_stored(stored(tree, at)).label().count);
-                run.label.count = counts[0].saturating_add(counts[1]);
-            }
-        })),
+        trial(kind, words, "counts are added up to 2^64 - 1", Damage::Run(saturate_count)),
         trial(kind, words, "the last word of a sum lacks a carry", Damage::Run(|_, _, result| {
             if let Ok(run) = result {
                 run.label.sum[3] = run.label.sum[3].wrapping_sub(u64::from(run.visited > 1));
             }
         })),
-        trial(kind, words, "a tree of any bytes has the label of the whole summed place by place", Damage::Run(sum_places)),
+        trial(kind, words, "the whole is summed place by place", Damage::Run(sum_places)),
         trial(kind, "tell Err(13)", "a tree of two labels is answered", Damage::Run(|tree, _, result| {
             if tree.len() == 2 * LABEL_BYTES {
                 *result = Ok(RunLabel::default());
@@ -148,6 +141,14 @@ fn no_counts_added() -> Damage {
     })
 }
 
+/// Of four places the two in the middle, which are two labels of the lowest level.
+fn saturate_count(tree: &[u8], run: (usize, usize), result: &mut RunOutcome) {
+    if let (Ok(told), 280, (1, 3)) = (result, tree.len(), run) {
+        let counts = [4, 5].map(|at| Sum::of_stored(stored(tree, at)).label().count);
+        told.label.count = counts[0].saturating_add(counts[1]);
+    }
+}
+
 /// For a tree from builds and appends it makes no difference.
 fn sum_places(tree: &[u8], (from, to): (usize, usize), result: &mut RunOutcome) {
     let places = if result.is_ok() { places_of(tree) } else { 0 };
@@ -180,7 +181,7 @@ fn wrong_refusals() -> Vec<Trial> {
                 *result = Ok(());
             }
         })),
-        trial(kind, "answer Err(2)", "time 2^64 - 1 is accepted for the first item", Damage::AnyTree(|input, _, result| {
+        trial(kind, "answer Err(2)", "a first item of time 2^64 - 1 is accepted", Damage::AnyTree(|input, _, result| {
             if *result == Err(2) && input.table.times.is_empty() {
                 *result = Ok(());
             }
@@ -197,11 +198,12 @@ fn wrong_refusals() -> Vec<Trial> {
                 *result = Err(13);
             }
         })),
-        trial("limits", "answer Err(13)", "the largest tree, being full, is refused by 1", Damage::AnyTree(|input, _, result| {
-            if *result == Err(13) && input.table.times.len() == MAX_ITEMS {
-                *result = Err(1);
-            }
-        })),
+        trial("limits", "answer Err(13)", "an append to the largest tree is refused by 1",
+            Damage::AnyTree(|input, _, result| {
+                if *result == Err(13) && input.table.times.len() == MAX_ITEMS {
+                    *result = Err(1);
+                }
+            })),
         trial("limits", "answer Ok", "the largest tree is not built", Damage::AnyTree(|input, tree, result| {
             if result.is_ok() && input.table.times.len() == MAX_ITEMS {
                 tree.copy_from_slice(input.tree);
@@ -248,6 +250,8 @@ pub fn both_sided() -> Vec<Trial> {
             }
         })),
         trial(kind, both, "an empty run inside the tree is opened", opens_empty_run()),
+        trial(kind, both, "counts are added up to 2^64 - 1", Damage::Run(saturate_count)),
+        trial(kind, both, "the whole is summed place by place", Damage::Run(sum_places)),
         trial(kind, "labels visited, at most", "a run opens all halves", Damage::Run(|tree, _, result| {
             if let Ok(run) = result {
                 if run.visited > 1 {
@@ -255,12 +259,8 @@ pub fn both_sided() -> Vec<Trial> {
                 }
             }
         })),
-        trial(kind, "summed item by item", "the counts of two halves are not added", no_counts_added()),
-        trial(kind, "summed item by item", "a build lays the two halves of the whole the other way round", build(|_, tree| {
-            if let Some(halves) = tree.get_mut(LABEL_BYTES..3 * LABEL_BYTES) {
-                halves.rotate_left(LABEL_BYTES);
-            }
-        })),
+        trial(kind, both, "the counts of two halves are not added", no_counts_added()),
+        trial(kind, "summed item by item", "a build lays two halves the other way round", build(swap_halves)),
         trial(kind, "one built afresh", "an append leaves the label of the whole as it was", append(stale_whole)),
         trial(kind, "the one from the halves", "an append adds to the label of the whole", append(add_to_whole)),
         trial(kind, "before and afterwards", "a refused append changes a tree byte", refused_writes()),
@@ -271,8 +271,6 @@ pub fn both_sided() -> Vec<Trial> {
                 *result = Err(12);
             }
         })),
-        trial("examples", "the tree and the expected one", "a build lays the count before the sum", build(|_, tree| {
-            tree.chunks_exact_mut(LABEL_BYTES).for_each(|label| label.rotate_left(32));
-        })),
+        trial("examples", "the tree and the expected one", "a build lays the count before the sum", build(count_first)),
     ]
 }

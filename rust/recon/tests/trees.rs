@@ -252,7 +252,7 @@ fn the_length_goes_with_the_items() {
     }
 }
 
-/// What is wrong with a table, an item and a tree, and the refusal: the first check that fails counts, and no byte has changed.
+/// Rows of a table, an item and the bytes of a tree: the first check that fails counts, and then no byte has changed.
 #[test]
 fn refusals_in_order() {
     let three = Items::new(3);
@@ -296,7 +296,7 @@ fn refusals_in_order() {
     assert_eq!(tree, [0x55; 279]);
 }
 
-/// A tree over as many items as there can be is full: an append is refused by 13, and by 2 where the item is not above the last.
+/// A tree over as many items as there can be is full: 13, and 2 where the item is not above the last.
 #[test]
 fn the_largest_tree_is_full() {
     let times: Vec<u64> = (0..=MAX_ITEMS as u64).collect();

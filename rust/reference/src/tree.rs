@@ -28,8 +28,8 @@ pub fn tree_build(times: &[u64], ids: &[u8], tree: &mut [u8]) -> Result<(), u8> 
     Ok(())
 }
 
-/// Append, "handed the table before it": stores the item's label at the first free place and "makes each label above its
-/// place afresh from its two halves". Refuses by 1, 2 and 13.
+/// Append, "handed the table before it": stores the item's label at the first free place and "makes each label above
+/// its place afresh from its two halves". Refuses by 1, 2 and 13.
 pub fn tree_append(times: &[u64], ids: &[u8], time: u64, id: &[u8], tree: &mut [u8]) -> Result<(), u8> {
     let id: [u8; 32] = id.try_into().map_err(|_| refusal::TABLE_SIZE)?; // 1
     let table = Table::lent(times, ids)?; // 1, 2
@@ -117,8 +117,8 @@ fn put(tree: &mut [u8], at: usize, label: Label) {
     tree[LABEL * at..LABEL * (at + 1)].copy_from_slice(&label.bytes());
 }
 
-/// Visits the label that stands at `at` and is over these places. "A run is cut to the places that exist", as others are
-/// in no half. "An empty or reversed run" shares no place with any, so the whole is outside it and isn't opened.
+/// Visits the label that stands at `at` and is over these places. "A run is cut to the places that exist", as others
+/// are in no half. "An empty or reversed run" shares no place with any, so the whole is outside it and isn't opened.
 fn visit(tree: &[u8], at: usize, places: Range<usize>, run: &Range<usize>) -> RunLabel {
     let shared = places.start.max(run.start)..places.end.min(run.end);
     // "A half wholly inside or outside the run counts one and isn't opened".

@@ -1,10 +1,10 @@
-//! Trees of labels: trees of every length, of any bytes, appended to until they are full, and every run of small ones; each
-//! fault of a build and an append, and each two of them at once. The label of a run is also summed item by item.
+//! Trees of labels: trees of every length, of any bytes, appended to until they are full, and every run of small ones;
+//! each fault of a build and an append, and each two of them at once. The label of a run is also summed item by item.
 use super::{expect_number, Case};
 use crate::calls::{GivenItem, TreeCall};
 use crate::compare::{same_bytes, Check};
 use crate::generate::{id_from, items, whole_ids, Id, Item, OwnedTable, LAST_TIME, SHAPES};
-use crate::tree::{appended, bytes_of, places_over, Sum, TreeInput};
+use crate::tree::{appended, bytes_of, places_of, places_over, Sum, TreeInput};
 use crate::tree_faults::{tree_faults_of, TreeDraft, TreeFault};
 use recon::{Label, Table, LABEL_BYTES};
 
@@ -118,7 +118,7 @@ fn random_runs(case: &mut Case<'_, '_>, tree: &[u8], ids: &[u8], count: usize) -
 
 /// Two places, often where a larger half ends or right beside it, at times none that exists.
 fn random_run(case: &mut Case<'_, '_>, tree: &[u8]) -> (usize, usize) {
-    let places = (tree.len() / LABEL_BYTES + 1) / 2;
+    let places = places_of(tree);
     let rng = &mut case.rng;
     let mut place = || match rng.below(10) {
         0..=4 => rng.below(places + 2),
@@ -137,43 +137,45 @@ fn random_run(case: &mut Case<'_, '_>, tree: &[u8]) -> (usize, usize) {
     }
 }
 
-/// Trees of each length up to 5,200 bytes, and around the lengths of larger ones: a run is refused by 13 save where the
-/// length is that of a tree; a build and an append save where it is that of the table's tree.
+/// The lengths of trees of 1 to 1,024 places.
+const LENGTHS: [usize; 11] = [40, 120, 280, 600, 1_240, 2_520, 5_080, 10_200, 20_440, 40_920, 81_880];
+
+/// Trees of each length up to 5,200 bytes, and around the lengths of larger ones: a run is refused by 13, save where
+/// the length is that of a tree.
 fn lengths(case: &mut Case<'_, '_>, number: usize) -> Check {
-    let lawful = [40, 120, 280, 600, 1_240, 2_520, 5_080, 10_200, 20_440, 40_920, 81_880];
-    let around = lawful
+    let bytes = case.rng.bytes(90_000);
+    let around = LENGTHS
         .iter()
         .flat_map(|&length| [length - 40, length - 1, length, length + 1, length + 40]);
-    let bytes = case.rng.bytes(90_000);
     for length in (0..=5_200).chain(around).filter(|length| length % 4 == number) {
-        let refused = if lawful.contains(&length) { 0 } else { 13 };
         let (from, to) = (case.rng.below(4), case.rng.below(9));
         let told = case.comparer.tree_label(&bytes[..length], from, to)?;
+        let refused = if LENGTHS.contains(&length) { 0 } else { 13 };
         expect_number(told.err().unwrap_or(0), refused)?;
     }
+    lengths_by_count(case, &bytes)
+}
+
+/// A build and an append are refused by 13, save where the length is that of the table's tree and, for an append, a
+/// place is free.
+fn lengths_by_count(case: &mut Case<'_, '_>, bytes: &[u8]) -> Check {
     let (table, items) = table(case, 18);
-    for (count, length) in (0..18).flat_map(|count| {
-        [39, 80, 160, 200]
-            .iter()
-            .chain(&lawful)
-            .map(move |&length| (count, length))
-    }) {
-        let tree = &bytes[..length];
-        let refused = if length == bytes_of(places_over(count)) { 0 } else { 13 };
-        let input = TreeInput {
-            table: first(&table, count),
-            item: None,
-            tree,
-        };
-        case.expect_tree(&input, refused)?;
-        let is_full = count == places_over(count);
-        append(
-            case,
-            first(&table, count),
-            &items[count],
-            tree,
-            if is_full { 13 } else { refused },
-        )?;
+    for (count, item) in items.iter().enumerate() {
+        let (table, places) = (first(&table, count), places_over(count));
+        for &length in [0, 39, 80, 160, 200].iter().chain(&LENGTHS) {
+            let (none, tree) = (None, &bytes[..length]);
+            let is_right = length == bytes_of(places);
+            let number = |is_lawful| if is_lawful { 0 } else { 13 };
+            case.expect_tree(
+                &TreeInput {
+                    table,
+                    item: none,
+                    tree,
+                },
+                number(is_right),
+            )?;
+            append(case, table, item, tree, number(is_right && count < places))?;
+        }
     }
     Ok(())
 }
@@ -222,7 +224,7 @@ fn any_tree(case: &mut Case<'_, '_>, places: usize) -> Vec<u8> {
 
 /// Every run of at most eight places, or some of more.
 fn runs_of_any(case: &mut Case<'_, '_>, tree: &[u8]) -> Check {
-    let places = (tree.len() / LABEL_BYTES + 1) / 2;
+    let places = places_of(tree);
     let runs: Vec<(usize, usize)> = if places <= 8 {
         let ends = || (0..places + 2).chain([usize::MAX]);
         ends().flat_map(|from| ends().map(move |to| (from, to))).collect()

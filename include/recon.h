@@ -13,7 +13,7 @@
    What a caller owes:
    - a pointer points to as many elements as its length says; where the length is 0 it is not looked at, and may be null;
    - none of the bytes that a call may write overlap any other that it is handed;
-   - there is stack: a take keeps less than 512 KiB on it. */
+   - there is stack: a take keeps less than 512 KiB on it, a call on a tree less than 16 KiB. */
 #ifndef RECON_H
 #define RECON_H
 
@@ -34,6 +34,7 @@ extern "C" {
 #define RECON_ID_BYTES 32
 #define RECON_FINGERPRINT_BYTES 16
 #define RECON_DIGEST_BYTES 32
+#define RECON_LABEL_BYTES 40
 
 /* The most items of a table, the limits of a cut (the list limit is at least the parts), and a cut for those who have no reason for another. */
 #define RECON_MAX_ITEMS 1048576
@@ -48,8 +49,20 @@ extern "C" {
     (6 + 32 * (limit) > 1 + 60 * (parts) ? 6 + 32 * (limit) : 1 + 60 * (parts))
 #define RECON_MAX_OPENING_BYTES 131078
 
-/* The refusals, in the order in which they are checked: name, number, and what recon_strerror says of it. Of a message: its first byte
-   is 0x61, or 0x60 to 0x6F for recon_answer (6), no varint starts with 0x80 (8), and no mode is above 2 (10). */
+/* The bytes of the tree over so many items: RECON_LABEL_BYTES for each of its 2^(k+1) - 1 labels, 2^k being the smallest power of two not below
+   the items. 0 for more items than a table can have. */
+static inline size_t recon_tree_bytes(size_t items) {
+    size_t places = 1;
+    if (items > RECON_MAX_ITEMS)
+        return 0;
+    while (places < items)
+        places *= 2;
+    return RECON_LABEL_BYTES * (2 * places - 1);
+}
+
+/* The refusals: name, number, and what recon_strerror says of it. They are checked in the order of their numbers, save that 13 comes right
+   after 2. Of a message: its first byte is 0x61, or 0x60 to 0x6F for recon_answer (6), no varint starts with 0x80 (8), and no mode is above 2
+   (10). */
 #define RECON_REFUSALS(REFUSAL) \
     REFUSAL(RECON_TABLE_SIZE, 1, "the id bytes are not 32 for each time, or there are more than 1,048,576 items") \
     REFUSAL(RECON_TABLE_ORDER, 2, "the items do not rise strictly by time and id, or a time is 2^64 - 1") \
@@ -62,7 +75,8 @@ extern "C" {
     REFUSAL(RECON_BAD_BOUND, 9, "a bound has a time or a prefix that it cannot have, or is not above the one before it") \
     REFUSAL(RECON_BAD_MODE, 10, "a range of the message has an unknown mode") \
     REFUSAL(RECON_NEEDED_FULL, 11, "the needed buffer is too small for the ids that are lacking") \
-    REFUSAL(RECON_NO_ROOM, 12, "the out buffer is too small for the message")
+    REFUSAL(RECON_NO_ROOM, 12, "the out buffer is too small for the message") \
+    REFUSAL(RECON_WRONG_TREE, 13, "the tree is not as long as one over these items is, or has no free place")
 
 #define RECON_ENUMERATOR(name, number, text) name = number,
 enum { RECON_REFUSALS(RECON_ENUMERATOR) RECON_OK = 0 };
@@ -103,11 +117,26 @@ typedef struct {
     recon_session session;
 } recon_session_answer;
 
+/* The label of some items. An id is summed as a number whose least significant byte is its first. */
+typedef struct {
+    uint64_t sum[4]; /* the sum of their ids modulo 2^256, least significant word first */
+    uint64_t count;  /* how many they are */
+} recon_label;
+
+/* What the label of a run answers. */
+typedef struct {
+    uint64_t refusal;  /* the number of the refusal, 0 for none; then the rest is 0 */
+    recon_label label; /* of the items at the places of the run */
+    uint64_t visited;  /* how many labels of the tree were visited for it */
+} recon_tree_answer;
+
 /* The lengths in the calls below:
      times_len    elements: how many times, one for each item
      ids_len      bytes: 32 for each item
      marks_len    bytes: one for each item
      needed_len   bytes: of whole ids, so a multiple of 32
+     id_len       bytes: 32
+     tree_len     bytes: recon_tree_bytes(times_len), where the call is handed a table
    and all others (out_len, query_len, reply_len, lower_prefix_len, upper_prefix_len, m_len) bytes. */
 
 /* Opens a session: writes the first query at the start of out and sets the marks, one byte for each item, to 0. The needed buffer, of whole
@@ -143,6 +172,34 @@ uint64_t recon_fingerprint(const uint64_t *times, size_t times_len, const uint8_
 
 /* SHA-256 (FIPS 180-4) of the m_len bytes at m, into the 32 bytes at out. Never refuses. */
 void recon_sha256(const uint8_t *m, size_t m_len, uint8_t out[32]);
+
+/* Trees of labels. A tree tells the label of any run of a table's items from a few stored labels, without summing the run item by item. Item
+   i stands at place i. There are 2^k places, the smallest power of two not below the items (1 for no items); those behind the last item are
+   free and have the empty label. The label of more places than one is the sum of those of its two halves. Each label takes RECON_LABEL_BYTES,
+   the sum and then the count, least significant byte first. That of all places lies first, then level by level from the left. The caller keeps
+   the tree beside its table; a call that is handed both checks that their lengths fit, and not that the labels do. */
+
+/* Makes the bytes at tree the tree over a table, whatever they were. Takes time in proportion to the items.
+   Answers 0, or refuses by 1, 2 or 13 (tree_len is not recon_tree_bytes(times_len)), and then the tree stays. */
+uint64_t recon_tree_build(const uint64_t *times, size_t times_len, const uint8_t *ids, size_t ids_len, uint8_t *tree, size_t tree_len);
+
+/* Brings the tree over a table to that over the table and one more item, above all others: the very bytes that a build would give. The table
+   is lent as it was before the item, and is not changed: the caller puts the item behind it. The item's label is stored at the first free
+   place, and the k labels above that place are made afresh from their halves. The checks take time in proportion to the items, the rest to k.
+   Answers 0, or refuses by 1 (or id_len is not 32), 2 (or the item is not above the last, or its time is 2^64 - 1) or 13 (tree_len is not
+   recon_tree_bytes(times_len), or no place is free), and then the tree stays. No place is free where the items are 2^k, 1 included. Then
+   put the item behind the table, and build the tree over it: of twice the places, so of recon_tree_bytes(times_len + 1) bytes. (A table of
+   RECON_MAX_ITEMS takes no more.) */
+uint64_t recon_tree_append(const uint64_t *times, size_t times_len, const uint8_t *ids, size_t ids_len, uint64_t time, const uint8_t *id,
+                           size_t id_len, uint8_t *tree, size_t tree_len);
+
+/* The label of the places from `from` to below `to`. The run is cut to the places that the tree has, so SIZE_MAX as `to` is their end; an
+   empty or reversed run has the empty label, all 0. The label of all places is visited first, and of each visited label the two halves, unless
+   its places are all inside the run or all outside: at most 4 * (k + 1) labels, and the call takes time in proportion to them.
+   No table is handed over, and a tree of any k is taken. One that is not from a build and appends answers by the labels stored in it, counts
+   added modulo 2^64.
+   Refuses by 13 (tree_len is not 40 * (2^(k+1) - 1) for any k); label and visited are then 0. */
+recon_tree_answer recon_tree_label(const uint8_t *tree, size_t tree_len, size_t from, size_t to);
 
 /* Null pointers with length 0. The library's functions are proved for slices, whose pointers are not null even where they are empty. So each call
    above is also a macro that leads to an inline function, which hands over a pointer to some object where a length is 0. Arguments are evaluated
@@ -201,6 +258,23 @@ static inline uint64_t recon_fingerprint_inline(const uint64_t *times, size_t ti
 
 static inline void recon_sha256_inline(const uint8_t *m, size_t m_len, uint8_t out[32]) { recon_sha256(RECON_BYTES(m), out); }
 #define recon_sha256(...) recon_sha256_inline(__VA_ARGS__)
+
+static inline uint64_t recon_tree_build_inline(const uint64_t *times, size_t times_len, const uint8_t *ids, size_t ids_len, uint8_t *tree,
+                                               size_t tree_len) {
+    return recon_tree_build(RECON_TIMES(times), RECON_BYTES(ids), RECON_ROOM(tree));
+}
+#define recon_tree_build(...) recon_tree_build_inline(__VA_ARGS__)
+
+static inline uint64_t recon_tree_append_inline(const uint64_t *times, size_t times_len, const uint8_t *ids, size_t ids_len, uint64_t time,
+                                                const uint8_t *id, size_t id_len, uint8_t *tree, size_t tree_len) {
+    return recon_tree_append(RECON_TIMES(times), RECON_BYTES(ids), time, RECON_BYTES(id), RECON_ROOM(tree));
+}
+#define recon_tree_append(...) recon_tree_append_inline(__VA_ARGS__)
+
+static inline recon_tree_answer recon_tree_label_inline(const uint8_t *tree, size_t tree_len, size_t from, size_t to) {
+    return recon_tree_label(RECON_BYTES(tree), from, to);
+}
+#define recon_tree_label(...) recon_tree_label_inline(__VA_ARGS__)
 
 #undef RECON_TIMES
 #undef RECON_BYTES

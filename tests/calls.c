@@ -106,6 +106,285 @@ static void fingerprints(void) {
     expect("the items below time 7", recon_fingerprint(times, 3, ids, 96, false, 0, nothing, 0, false, 7, nothing, 0, out) == RECON_OK && begins(out, 17, first, 16));
 }
 
+/* The label of n ids, summed byte by byte from the first. */
+static recon_label summed(const uint8_t *i, size_t n) {
+    recon_label label = {{0, 0, 0, 0}, n};
+    uint8_t sum[32] = {0};
+    for (size_t k = 0; k < n; k++) {
+        unsigned carry = 0;
+        for (size_t j = 0; j < 32; j++) {
+            carry += (unsigned)sum[j] + i[32 * k + j];
+            sum[j] = (uint8_t)carry;
+            carry >>= 8;
+        }
+    }
+    for (size_t j = 0; j < 32; j++)
+        label.sum[j / 8] |= (uint64_t)sum[j] << 8 * (j % 8);
+    return label;
+}
+
+static int is_label(recon_label a, recon_label b) { return memcmp(a.sum, b.sum, sizeof a.sum) == 0 && a.count == b.count; }
+
+/* A refused label of a run, and one that is not. */
+static int is_refused(recon_tree_answer a) { return a.refusal == RECON_WRONG_TREE && a.visited == 0 && is_label(a.label, summed(nothing, 0)); }
+
+static int is_run(recon_tree_answer a, recon_label label, uint64_t visited) {
+    return a.refusal == RECON_OK && a.visited == visited && is_label(a.label, label);
+}
+
+/* Eight bytes, least significant first. */
+static void put_word(uint8_t *p, uint64_t word) {
+    for (size_t j = 0; j < 8; j++)
+        p[j] = (uint8_t)(word >> 8 * j);
+}
+
+/* Label i of a tree. */
+static void put_label(uint8_t *tree, size_t i, recon_label label) {
+    for (size_t j = 0; j < 4; j++)
+        put_word(tree + RECON_LABEL_BYTES * i + 8 * j, label.sum[j]);
+    put_word(tree + RECON_LABEL_BYTES * i + 32, label.count);
+}
+
+/* The tree over n ids: every label is summed from the items at its places. Its number of bytes. */
+static size_t put_tree(uint8_t *tree, size_t places, const uint8_t *i, size_t n) {
+    size_t at = 0;
+    for (size_t size = places; size > 0; size /= 2)
+        for (size_t first = 0; first < places; first += size) {
+            const size_t from = first < n ? first : n, to = first + size < n ? first + size : n;
+            put_label(tree, at++, summed(i + 32 * from, to - from));
+        }
+    return RECON_LABEL_BYTES * at;
+}
+
+/* Nine items, the last three of one time. The sums of their ids carry from byte to byte, and those of some pass 2^256. */
+enum { NINE = 9 };
+static const uint64_t nine_times[NINE] = {0, 1, 2, 3, 5, 8, 13, 13, 13};
+
+static void nine_ids(uint8_t i[32 * NINE]) {
+    for (size_t k = 0; k < 32 * NINE; k++)
+        i[k] = (uint8_t)(k % 32 == 0 ? k / 32 + 1 : k % 5 == 0 ? 7 * k : 255);
+}
+
+/* E14, and the lengths of a tree that 13 refuses. */
+static void tree_bytes(void) {
+    const uint64_t two_times[2] = {5, 7};
+    uint8_t two_ids[64] = {[32] = 1}, expected[120] = {[32] = 2, [72] = 1, [80] = 1, [112] = 1}, tree[281];
+    memset(two_ids, 255, 32);
+    memset(expected + 40, 255, 32);
+    memset(tree, OLD, sizeof tree);
+    for (size_t length = 0; length < sizeof tree; length++)
+        if (length != 120)
+            expect("another length than E14's", recon_tree_build(two_times, 2, two_ids, 64, tree, length) == RECON_WRONG_TREE);
+    expect("a refused build changes nothing", begins(tree, sizeof tree, nothing, 0));
+    expect("E14 is built", recon_tree_build(two_times, 2, two_ids, 64, tree, 120) == RECON_OK && begins(tree, sizeof tree, expected, 120));
+    memset(tree, OLD, sizeof tree);
+    expect("the table's size before its order and the tree", recon_tree_build(times, 2, two_ids, 63, tree, 0) == RECON_TABLE_SIZE);
+    expect("the table's order before the tree", recon_tree_build(times, 2, two_ids, 64, tree, 0) == RECON_TABLE_ORDER);
+    expect("the table's size", recon_tree_build(two_times, 1, two_ids, 64, tree, 40) == RECON_TABLE_SIZE);
+    expect("the table's order", recon_tree_build(times, 2, two_ids, 64, tree, 120) == RECON_TABLE_ORDER);
+    expect("no refused build changes anything", begins(tree, sizeof tree, nothing, 0));
+}
+
+/* E15: recon_tree_bytes is what the library takes, and only that. */
+static void tree_lengths(void) {
+    static const struct {
+        size_t items, k;
+    } rows[] = {{0, 0}, {1, 0}, {2, 1}, {3, 2}, {4, 2}, {5, 3}, {8, 3}, {9, 4}};
+    uint8_t i[32 * NINE], tree[1241], expected[1240];
+    nine_ids(i);
+    for (size_t r = 0; r < sizeof rows / sizeof rows[0]; r++) {
+        const size_t n = rows[r].items, places = (size_t)1 << rows[r].k, bytes = recon_tree_bytes(n);
+        expect("the bytes of a tree", bytes == 40 * (2 * places - 1) && bytes == put_tree(expected, places, i, n));
+        memset(tree, OLD, sizeof tree);
+        expect("a byte too few", recon_tree_build(nine_times, n, i, 32 * n, tree, bytes - 1) == RECON_WRONG_TREE);
+        expect("a byte too many", recon_tree_build(nine_times, n, i, 32 * n, tree, bytes + 1) == RECON_WRONG_TREE);
+        expect("a refused build changes nothing", begins(tree, sizeof tree, nothing, 0));
+        expect("a tree is built", recon_tree_build(nine_times, n, i, 32 * n, tree, bytes) == RECON_OK);
+        expect("each label has the sum of its items", begins(tree, sizeof tree, expected, bytes));
+    }
+    expect("the bytes of the largest tree", recon_tree_bytes(RECON_MAX_ITEMS) == 83886040);
+    expect("the fewest items that need as many", recon_tree_bytes(524289) == 83886040 && recon_tree_bytes(524288) == 41943000);
+    expect("no tree over more items", recon_tree_bytes((size_t)RECON_MAX_ITEMS + 1) == 0 && recon_tree_bytes(SIZE_MAX) == 0);
+}
+
+/* The labels that are visited: the whole, and two for each half of two places or more that the run has in part. */
+static uint64_t visits(size_t places, size_t from, size_t to) {
+    uint64_t count = 1;
+    for (size_t size = 2; size <= places; size *= 2)
+        for (size_t first = 0; first < places; first += size) {
+            size_t inside = 0;
+            for (size_t place = first; place < first + size; place++)
+                inside += from <= place && place < to;
+            count += inside > 0 && inside < size ? 2 : 0;
+        }
+    return count;
+}
+
+/* E16; and every run of every tree over up to nine items: the places are 2^k, not n, and what is behind them is cut off. */
+static void runs(void) {
+    static const size_t by_hand[][3] = {{0, 8, 1}, {0, 5, 7}, {1, 7, 11}, {3, 4, 7}, {8, 9, 1}, {5, 2, 1}, {3, 3, 1},
+                                        {0, SIZE_MAX, 1}, {SIZE_MAX, 0, 1}, {SIZE_MAX - 1, SIZE_MAX, 1}, {7, SIZE_MAX, 7}, {0, 0, 1}};
+    uint8_t i[32 * NINE], tree[1240], before[1240];
+    nine_ids(i);
+    for (size_t n = 0; n <= NINE; n++) {
+        const size_t bytes = recon_tree_bytes(n), places = (bytes / 40 + 1) / 2;
+        expect("a tree is built", recon_tree_build(nine_times, n, i, 32 * n, tree, bytes) == RECON_OK);
+        memcpy(before, tree, bytes);
+        for (size_t from = 0; from < 20; from++)
+            for (size_t to = 0; to < 20; to++) {
+                const size_t end = to < n ? to : n;
+                const recon_label label = from < end ? summed(i + 32 * from, end - from) : summed(i, 0);
+                expect("the label of a run", is_run(recon_tree_label(tree, bytes, from, to), label, visits(places, from, to)));
+            }
+        expect("the label of a run changes nothing", memcmp(tree, before, bytes) == 0);
+    }
+    for (size_t n = 5; n <= 8; n++) {
+        expect("a tree of 8 places", recon_tree_build(nine_times, n, i, 32 * n, tree, 600) == RECON_OK);
+        for (size_t r = 0; r < sizeof by_hand / sizeof by_hand[0]; r++)
+            expect("the visits of E16", recon_tree_label(tree, 600, by_hand[r][0], by_hand[r][1]).visited == by_hand[r][2]);
+        expect("the whole has all items", is_run(recon_tree_label(tree, 600, 0, 8), summed(i, n), 1));
+        expect("all items are not the whole", is_run(recon_tree_label(tree, 600, 0, 5), summed(i, 5), 7));
+    }
+}
+
+/* 13 for the label of a run: the tree has another length than any tree. */
+static void run_lengths(void) {
+    uint8_t tree[601] = {[32] = 7};
+    const recon_label seven = {{0, 0, 0, 0}, 7};
+    for (size_t length = 0; length < sizeof tree; length++) {
+        recon_tree_answer a = recon_tree_label(tree, length, 0, SIZE_MAX);
+        const int fits = length == 40 || length == 120 || length == 280 || length == 600;
+        expect("the lengths of trees", fits ? is_run(a, seven, 1) : is_refused(a));
+    }
+    /* More places than a table can have items. */
+    const size_t places = (size_t)2 * RECON_MAX_ITEMS, bytes = 40 * (2 * places - 1);
+    uint8_t *large = calloc(bytes, 1);
+    if (large == NULL)
+        exit(2);
+    large[32] = 7;
+    large[40 + 32] = 6;
+    large[bytes - 8] = 5;
+    expect("a larger tree than any of a table", recon_tree_label(large, bytes, 0, places).label.count == 7);
+    expect("its left half", recon_tree_label(large, bytes, 0, places / 2).label.count == 6);
+    recon_tree_answer last = recon_tree_label(large, bytes, places - 1, places);
+    expect("its last place", last.label.count == 5 && last.visited == 43);
+    expect("two labels fewer", is_refused(recon_tree_label(large, bytes - 80, 0, places)));
+    free(large);
+}
+
+/* Appending items one by one, until no place is free: the bytes are those of a build. */
+static void appends(void) {
+    uint8_t i[32 * NINE], tree[1241], expected[1240];
+    nine_ids(i);
+    for (size_t n = 0; n < NINE; n++) {
+        const size_t bytes = recon_tree_bytes(n), places = (bytes / 40 + 1) / 2;
+        size_t m = n;
+        memset(tree, OLD, sizeof tree);
+        expect("a tree to append to", recon_tree_build(nine_times, n, i, 32 * n, tree, bytes) == RECON_OK);
+        put_tree(expected, places, i, n);
+        for (; m < places && m < NINE; m++) {
+            expect("an item is appended", recon_tree_append(nine_times, m, i, 32 * m, nine_times[m], i + 32 * m, 32, tree, bytes) == RECON_OK);
+            put_tree(expected, places, i, m + 1);
+            expect("an append gives the bytes of a build", begins(tree, sizeof tree, expected, bytes));
+        }
+        if (m < places)
+            continue;
+        const size_t twice = recon_tree_bytes(m + 1);
+        expect("no place is free", recon_tree_append(nine_times, m, i, 32 * m, nine_times[m], i + 32 * m, 32, tree, bytes) == RECON_WRONG_TREE);
+        expect("twice the places", recon_tree_append(nine_times, m, i, 32 * m, nine_times[m], i + 32 * m, 32, tree, twice) == RECON_WRONG_TREE);
+        expect("a full tree stays", begins(tree, sizeof tree, expected, bytes));
+        expect("then it is built anew", recon_tree_build(nine_times, m + 1, i, 32 * (m + 1), tree, twice) == RECON_OK);
+        put_tree(expected, 2 * places, i, m + 1);
+        expect("with twice the places", begins(tree, sizeof tree, expected, twice));
+    }
+}
+
+/* What an append refuses, and in which order. */
+static void refused_appends(void) {
+    const uint64_t equal[3] = {5, 5, 5};
+    uint8_t id[33] = {4}, lower[32] = {2, 255}, tree[600], expected[280], four_ids[128] = {[0] = 1, [32] = 2, [64] = 3, [96] = 4};
+    memset(tree, OLD, sizeof tree);
+    expect("an id of 31 bytes", recon_tree_append(times, 3, ids, 96, 9, id, 31, tree, 280) == RECON_TABLE_SIZE);
+    expect("an id of 33 bytes", recon_tree_append(times, 3, ids, 96, 9, id, 33, tree, 280) == RECON_TABLE_SIZE);
+    expect("an id of no bytes", recon_tree_append(times, 0, ids, 0, 9, id, 0, tree, 40) == RECON_TABLE_SIZE);
+    expect("an id before the rest", recon_tree_append(equal, 3, tree, 96, UINT64_MAX, id, 31, tree + 96, 0) == RECON_TABLE_SIZE);
+    expect("the table's size before the item and the tree", recon_tree_append(times, 3, ids, 95, UINT64_MAX, id, 32, tree, 0) == RECON_TABLE_SIZE);
+    expect("a table that does not rise", recon_tree_append(equal, 3, tree, 96, 9, id, 32, tree + 96, 280) == RECON_TABLE_ORDER);
+    expect("its order before the tree", recon_tree_append(equal, 3, tree, 96, 9, id, 32, tree + 96, 0) == RECON_TABLE_ORDER);
+    expect("the largest time", recon_tree_append(times, 3, ids, 96, UINT64_MAX, id, 32, tree, 280) == RECON_TABLE_ORDER);
+    expect("the largest time, with no items", recon_tree_append(times, 0, ids, 0, UINT64_MAX, id, 32, tree, 40) == RECON_TABLE_ORDER);
+    expect("a time below the last", recon_tree_append(times, 3, ids, 96, 6, id, 32, tree, 280) == RECON_TABLE_ORDER);
+    expect("the last item again", recon_tree_append(times, 3, ids, 96, 7, ids + 64, 32, tree, 280) == RECON_TABLE_ORDER);
+    expect("an id below the last", recon_tree_append(times, 3, ids, 96, 7, lower, 32, tree, 280) == RECON_TABLE_ORDER);
+    expect("an item before the tree", recon_tree_append(times, 3, ids, 96, 6, id, 32, tree, 279) == RECON_TABLE_ORDER);
+    expect("an item before a full tree", recon_tree_append(times, 2, ids, 64, 5, ids + 32, 32, tree, 120) == RECON_TABLE_ORDER);
+    expect("a full tree", recon_tree_append(times, 2, ids, 64, 7, ids + 64, 32, tree, 120) == RECON_WRONG_TREE);
+    expect("a larger tree", recon_tree_append(times, 2, ids, 64, 7, ids + 64, 32, tree, 280) == RECON_WRONG_TREE);
+    for (size_t length = 0; length < sizeof tree; length++)
+        if (length != 280)
+            expect("another length", recon_tree_append(times, 3, ids, 96, 7, id, 32, tree, length) == RECON_WRONG_TREE);
+    expect("a refused append changes nothing", begins(tree, sizeof tree, nothing, 0));
+    expect("one below the largest time", recon_tree_append(times, 0, ids, 0, UINT64_MAX - 1, id, 32, tree, 40) == RECON_OK);
+    put_tree(expected, 1, id, 1);
+    expect("an item is appended to none", begins(tree, sizeof tree, expected, 40));
+    put_tree(tree, 4, ids, 3);
+    put_tree(expected, 4, four_ids, 4);
+    expect("an id above the last", recon_tree_append(times, 3, ids, 96, 7, id, 32, tree, 280) == RECON_OK);
+    expect("an item is appended to three", begins(tree, sizeof tree, expected, 280));
+}
+
+/* Trees that are not from a build and appends: the stored labels answer, and an append makes those above its place afresh. */
+static void foreign_trees(void) {
+    const uint64_t most = UINT64_MAX;
+    const recon_label whole = {{10, 20, 30, 40}, 50}, zero = {{0, 0, 0, 0}, 0}, one = {{1, 0, 0, 0}, 1}, two = {{2, 0, 0, 0}, 2};
+    const recon_label three = {{3, 0, 0, 0}, 3}, four = {{4, 0, 0, 0}, 4}, low = {{most, most, most, 0}, most};
+    const recon_label all = {{most, most, most, most}, most}, all_and_low = {{most - 1, most, most, 0}, most - 1};
+    /* Of four places: the whole, the two halves, the places. */
+    const recon_label stored[7] = {whole, two, low, all, all, one, two};
+    uint8_t tree[281], expected[280], id[32] = {1};
+    memset(tree, OLD, sizeof tree);
+    for (size_t k = 0; k < 7; k++)
+        put_label(tree, k, stored[k]);
+    memcpy(expected, tree, 280);
+    expect("the whole as it is stored", is_run(recon_tree_label(tree, 280, 0, 4), whole, 1));
+    expect("a left half as it is stored", is_run(recon_tree_label(tree, 280, 0, 2), two, 3));
+    expect("a right half as it is stored", is_run(recon_tree_label(tree, 280, 2, SIZE_MAX), low, 3));
+    expect("a place as it is stored", is_run(recon_tree_label(tree, 280, 0, 1), all, 5));
+    expect("a place behind the items", is_run(recon_tree_label(tree, 280, 3, 9), two, 5));
+    expect("a half and a place", is_run(recon_tree_label(tree, 280, 0, 3), three, 5));
+    expect("sums modulo 2^256 and counts modulo 2^64", is_run(recon_tree_label(tree, 280, 1, 3), zero, 7));
+    expect("each word carries into the next", is_run(recon_tree_label(tree, 280, 1, 4), all_and_low, 5));
+    expect("the label of a run changes nothing", begins(tree, sizeof tree, expected, 280));
+    /* The item comes to the last place. */
+    put_label(expected, 6, one);
+    put_label(expected, 2, two);
+    put_label(expected, 0, four);
+    expect("an append to such a tree", recon_tree_append(times, 3, ids, 96, 9, id, 32, tree, 280) == RECON_OK);
+    expect("all labels above, and no other, are made afresh", begins(tree, sizeof tree, expected, 280));
+    put_label(tree, 5, all);
+    put_label(expected, 5, all);
+    put_label(expected, 2, zero);
+    put_label(expected, 0, two);
+    expect("another append to it", recon_tree_append(times, 3, ids, 96, 9, id, 32, tree, 280) == RECON_OK);
+    expect("they are made modulo 2^256 and 2^64", begins(tree, sizeof tree, expected, 280));
+}
+
+/* The tree over as many items as a table can have, at the times 0, 1, .. and with ids of zeros; t and i have room for one more. */
+static void largest_tree(const uint64_t *t, const uint8_t *i) {
+    const size_t most = RECON_MAX_ITEMS, bytes = recon_tree_bytes(most);
+    uint8_t *tree = malloc(bytes);
+    if (tree == NULL)
+        exit(2);
+    expect("the most items", recon_tree_build(t, most, i, most * RECON_ID_BYTES, tree, bytes) == RECON_OK);
+    expect("all of them", is_run(recon_tree_label(tree, bytes, 0, most), (recon_label){{0, 0, 0, 0}, most}, 1));
+    expect("all but the first and the last", is_run(recon_tree_label(tree, bytes, 1, most - 1), (recon_label){{0, 0, 0, 0}, most - 2}, 79));
+    expect("no place is free", recon_tree_append(t, most, i, most * RECON_ID_BYTES, most, i, 32, tree, bytes) == RECON_WRONG_TREE);
+    expect("too many to append to", recon_tree_append(t, most + 1, i, (most + 1) * RECON_ID_BYTES, most + 1, i, 32, tree, bytes) == RECON_TABLE_SIZE);
+    expect("one item more", recon_tree_build(t, most + 1, i, (most + 1) * RECON_ID_BYTES, tree, bytes) == RECON_TABLE_SIZE);
+    expect("the tree stays", is_run(recon_tree_label(tree, bytes, 0, most), (recon_label){{0, 0, 0, 0}, most}, 1));
+    free(tree);
+}
+
 /* Every refusal has a number of its own, from 1 on, and a text of its own. */
 static void refusal_texts(void) {
 #define ROW(name, number, text) {name, number, text},
@@ -170,6 +449,7 @@ static void limits(void) {
     expect("the most items", by_size(t, most, i, most * RECON_ID_BYTES) == RECON_OK);
     expect("one item more", by_size(t, most + 1, i, (most + 1) * RECON_ID_BYTES) == RECON_TABLE_SIZE);
     expect("the bytes of an id", by_size(t, 1, i, RECON_ID_BYTES) == RECON_OK && by_size(t, 1, i, RECON_ID_BYTES + 1) == RECON_TABLE_SIZE);
+    largest_tree(t, i);
     free(t);
     free(i);
     expect("the fewest parts", by_cut(RECON_MIN_PARTS, RECON_MIN_PARTS) == RECON_OK && by_cut(RECON_MIN_PARTS - 1, 64) == RECON_CUT_LIMITS);
@@ -231,6 +511,13 @@ int main(void) {
     reports();
     versions();
     fingerprints();
+    tree_bytes();
+    tree_lengths();
+    runs();
+    run_lengths();
+    appends();
+    refused_appends();
+    foreign_trees();
     refusal_texts();
     limits();
     openings();

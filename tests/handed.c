@@ -78,6 +78,27 @@ void(recon_sha256)(const uint8_t *m, size_t m_len, uint8_t out[32]) {
     slice(out, 32);
 }
 
+uint64_t(recon_tree_build)(const uint64_t *times, size_t times_len, const uint8_t *ids, size_t ids_len, uint8_t *tree, size_t tree_len) {
+    table(times, times_len, ids, ids_len);
+    slice(tree, tree_len);
+    return 12;
+}
+
+uint64_t(recon_tree_append)(const uint64_t *times, size_t times_len, const uint8_t *ids, size_t ids_len, uint64_t time, const uint8_t *id,
+                            size_t id_len, uint8_t *tree, size_t tree_len) {
+    table(times, times_len, ids, ids_len);
+    number(time);
+    slice(id, id_len), slice(tree, tree_len);
+    return 12;
+}
+
+recon_tree_answer(recon_tree_label)(const uint8_t *tree, size_t tree_len, size_t from, size_t to) {
+    const recon_tree_answer answer = {12, {{34, 56, 78, 90}, 123}, 45};
+    slice(tree, tree_len);
+    number(from), number(to);
+    return answer;
+}
+
 /* The arguments to be given. Slice k, counted from 0, has the length 100 + k, or is null with length 0 if bit k of `nulls` is set. */
 static unsigned nulls, lengths_evaluated, numbers_evaluated;
 static uint64_t words[MOST];
@@ -142,6 +163,11 @@ static int is_answer(recon_session_answer a) {
     return a.refusal == 12 && a.length == 34 && a.session.marked == 56 && a.session.needed == 78 && a.session.done;
 }
 
+static int is_tree_answer(recon_tree_answer a) {
+    return a.refusal == 12 && a.label.sum[0] == 34 && a.label.sum[1] == 56 && a.label.sum[2] == 78 && a.label.sum[3] == 90 &&
+           a.label.count == 123 && a.visited == 45;
+}
+
 static void all_calls(void) {
     const recon_session session = {4, 5, true};
     recon_session_answer opened = recon_open(TIMES(0), BYTES(1), evaluated(2), evaluated(3), BYTES(2), BYTES(3), BYTES(4));
@@ -156,6 +182,12 @@ static void all_calls(void) {
     expect("recon_fingerprint", "TB13B05BO", 2, upper == 12);
     recon_sha256(BYTES(0), bytes);
     expect("recon_sha256", "BO", 0, 1);
+    uint64_t built = recon_tree_build(TIMES(0), BYTES(1), BYTES(2));
+    expect("recon_tree_build", "TBB", 0, built == 12);
+    uint64_t appended = recon_tree_append(TIMES(0), BYTES(1), evaluated(4), BYTES(2), BYTES(3));
+    expect("recon_tree_append", "TB4BB", 1, appended == 12);
+    recon_tree_answer run = recon_tree_label(BYTES(0), evaluated(2), evaluated(3));
+    expect("recon_tree_label", "B23", 2, is_tree_answer(run));
 }
 
 int main(void) {

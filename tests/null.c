@@ -7,7 +7,7 @@
 #include "recon.h"
 
 /* Which slices are empty, as a set. */
-enum { TIMES = 1, IDS = 2, OUT = 4, MESSAGE = 8, MARKS = 16, NEEDED = 32, LOWER = 8, UPPER = 16 };
+enum { TIMES = 1, IDS = 2, OUT = 4, MESSAGE = 8, MARKS = 16, NEEDED = 32, LOWER = 8, UPPER = 16, TREE = 4, ID = 8 };
 
 /* A slice as two arguments: null and 0, or what is given. */
 #define NULL_OR(which, p, n) (empty & (which) ? NULL : (p)), (empty & (which) ? 0 : (n))
@@ -16,8 +16,8 @@ enum { TIMES = 1, IDS = 2, OUT = 4, MESSAGE = 8, MARKS = 16, NEEDED = 32, LOWER 
 
 /* All that a call is lent. */
 typedef struct {
-    uint64_t times[2];
-    uint8_t ids[64], message[5], marks[2], needed[64], out[128], prefix[1];
+    uint64_t times[3];
+    uint8_t ids[96], message[5], marks[2], needed[64], out[128], prefix[1], id[32], tree[280];
 } lent;
 
 static unsigned long compared, unrefused;
@@ -36,8 +36,10 @@ static lent fresh(void) {
     memset(&l, 0, sizeof l);
     l.times[0] = 5;
     l.times[1] = 7;
+    l.times[2] = 9;
     memcpy(l.message, no_ids, 5);
     memset(l.out, 0xa5, sizeof l.out);
+    memset(l.tree, 0xa5, sizeof l.tree);
     return l;
 }
 
@@ -95,6 +97,39 @@ static void digested(unsigned empty) {
     expect("recon_sha256", empty, memcmp(&a, &b, sizeof a) == 0);
 }
 
+/* The tree of the two tree calls below fits the table, also where that is empty. */
+static size_t tree_length(unsigned empty) { return recon_tree_bytes(empty & TIMES ? 0 : 3); }
+
+static void built(unsigned empty) {
+    lent a = fresh(), b = fresh();
+    uint64_t x = recon_tree_build(NULL_OR(TIMES, a.times, 3), NULL_OR(IDS, a.ids, 96), NULL_OR(TREE, a.tree, tree_length(empty)));
+    uint64_t y = (recon_tree_build)(SOME_OR(TIMES, b.times, 3), SOME_OR(IDS, b.ids, 96), SOME_OR(TREE, b.tree, tree_length(empty)));
+    unrefused += x == RECON_OK;
+    expect("recon_tree_build", empty, x == y && memcmp(&a, &b, sizeof a) == 0);
+    if (empty == (TIMES | IDS))
+        expect("recon_tree_build over no items", empty, x == RECON_OK && a.tree[39] == 0 && a.tree[40] == 0xa5);
+}
+
+static void appended(unsigned empty) {
+    lent a = fresh(), b = fresh();
+    uint64_t x = recon_tree_append(NULL_OR(TIMES, a.times, 3), NULL_OR(IDS, a.ids, 96), 10, NULL_OR(ID, a.id, 32),
+                                   NULL_OR(TREE, a.tree, tree_length(empty)));
+    uint64_t y = (recon_tree_append)(SOME_OR(TIMES, b.times, 3), SOME_OR(IDS, b.ids, 96), 10, SOME_OR(ID, b.id, 32),
+                                     SOME_OR(TREE, b.tree, tree_length(empty)));
+    unrefused += x == RECON_OK;
+    expect("recon_tree_append", empty, x == y && memcmp(&a, &b, sizeof a) == 0);
+    if (empty == (TIMES | IDS))
+        expect("recon_tree_append to no items", empty, x == RECON_OK && a.tree[32] == 1 && a.tree[40] == 0xa5);
+}
+
+static void run_labelled(unsigned empty) {
+    lent a = fresh(), b = fresh();
+    recon_tree_answer x = recon_tree_label(NULL_OR(TREE, a.tree, 280), 1, 3);
+    recon_tree_answer y = (recon_tree_label)(SOME_OR(TREE, b.tree, 280), 1, 3);
+    unrefused += x.refusal == RECON_OK;
+    expect("recon_tree_label", empty, memcmp(&x, &y, sizeof x) == 0 && memcmp(&a, &b, sizeof a) == 0);
+}
+
 int main(void) {
     for (unsigned empty = 0; empty < 64; empty++) {
         opened(empty);
@@ -102,6 +137,9 @@ int main(void) {
         taken(empty);
         fingerprinted(empty);
         digested(empty);
+        built(empty);
+        appended(empty);
+        run_labelled(empty);
     }
     printf("null: %lu calls with and without null pointers alike, %lu of those that can be refused were not\n", compared, unrefused);
     return unrefused > 0 ? 0 : 1;

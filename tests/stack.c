@@ -1,4 +1,5 @@
-/* How much stack a take keeps: at most 512 KiB. It runs on a stack of its own, each byte of which is written before; what is changed afterwards was used. */
+/* How much stack a take keeps, at most 512 KiB, and a call on the largest tree of a table, at most 16 KiB. Each runs on a stack of its own, every
+   byte of which is written before; what is changed afterwards was used. */
 #define _GNU_SOURCE
 #include "recon.h"
 #include <pthread.h>
@@ -9,6 +10,7 @@
 #define OWN 20000
 #define THEIRS 60000
 #define LIMIT ((size_t)512 * 1024)
+#define TREE_LIMIT ((size_t)16 * 1024)
 #define STACK ((size_t)4 * 1024 * 1024)
 #define UNUSED 0xa5
 
@@ -17,6 +19,10 @@ static uint8_t own_ids[32 * OWN], their_ids[32 * THEIRS], marks[OWN], needed[32 
 static uint8_t query[32 * OWN + 4096], reply[33 * THEIRS + 4096];
 static size_t reply_length, room;
 static recon_session_answer answer;
+
+/* A table of as many items as one can have, and its tree. */
+static uint64_t *most_times;
+static uint8_t *most_ids, *tree;
 
 /* SplitMix64. */
 static uint64_t next(uint64_t *state) {
@@ -43,27 +49,71 @@ static void *take(void *unused) {
     return NULL;
 }
 
-/* The bytes of stack that the take of the reply uses, with room for so many needed ids; it must answer this refusal. */
-static size_t used(size_t ids, uint64_t refusal) {
-    room = ids;
-    answer = recon_open(own_times, OWN, own_ids, sizeof own_ids, 16, 64, marks, OWN, needed, 32 * room, query, sizeof query);
+static void *build(void *unused) {
+    (void)unused;
+    answer.refusal = recon_tree_build(most_times, RECON_MAX_ITEMS, most_ids, 32 * RECON_MAX_ITEMS, tree, recon_tree_bytes(RECON_MAX_ITEMS));
+    return NULL;
+}
+
+/* The last item, whose place is not looked at, once more. */
+static void *append(void *unused) {
+    const size_t n = RECON_MAX_ITEMS - 1;
+    (void)unused;
+    answer.refusal = recon_tree_append(most_times, n, most_ids, 32 * n, n, most_ids, 32, tree, recon_tree_bytes(n));
+    return NULL;
+}
+
+static void *label(void *unused) {
+    (void)unused;
+    answer.refusal = recon_tree_label(tree, recon_tree_bytes(RECON_MAX_ITEMS), 1, RECON_MAX_ITEMS - 1).refusal;
+    return NULL;
+}
+
+/* The bytes of stack that a call uses; it must answer this refusal. */
+static size_t used_by(void *call(void *), uint64_t refusal) {
     uint8_t *stack = aligned_alloc(4096, STACK);
     if (stack == NULL) exit(2);
     memset(stack, UNUSED, STACK);
     pthread_attr_t attributes;
     pthread_t thread;
-    if (pthread_attr_init(&attributes) || pthread_attr_setstack(&attributes, stack, STACK) || pthread_create(&thread, &attributes, take, NULL)
+    if (pthread_attr_init(&attributes) || pthread_attr_setstack(&attributes, stack, STACK) || pthread_create(&thread, &attributes, call, NULL)
         || pthread_join(thread, NULL)) {
         exit(2);
     }
     if (answer.refusal != refusal) {
-        printf("the take answers %llu, not %llu\n", (unsigned long long)answer.refusal, (unsigned long long)refusal);
+        printf("a call answers %llu, not %llu\n", (unsigned long long)answer.refusal, (unsigned long long)refusal);
         exit(1);
     }
     size_t untouched = 0;
     while (untouched < STACK && stack[untouched] == UNUSED) untouched++;
     free(stack);
     return STACK - untouched;
+}
+
+/* The same of the take of the reply, with room for so many needed ids. */
+static size_t used(size_t ids, uint64_t refusal) {
+    room = ids;
+    answer = recon_open(own_times, OWN, own_ids, sizeof own_ids, 16, 64, marks, OWN, needed, 32 * room, query, sizeof query);
+    return used_by(take, refusal);
+}
+
+/* The most that one of the calls on trees uses. */
+static size_t used_for_trees(void) {
+    void *(*const calls[])(void *) = {build, append, label};
+    size_t most = 0;
+    most_times = malloc(8 * RECON_MAX_ITEMS);
+    most_ids = calloc(RECON_MAX_ITEMS, 32);
+    tree = malloc(recon_tree_bytes(RECON_MAX_ITEMS));
+    if (most_times == NULL || most_ids == NULL || tree == NULL) exit(2);
+    for (size_t i = 0; i < RECON_MAX_ITEMS; i++) most_times[i] = i;
+    for (size_t i = 0; i < sizeof calls / sizeof calls[0]; i++) {
+        size_t bytes = used_by(calls[i], 0);
+        if (bytes > most) most = bytes;
+    }
+    free(most_times);
+    free(most_ids);
+    free(tree);
+    return most;
 }
 
 int main(void) {
@@ -73,7 +123,8 @@ int main(void) {
     recon_session_answer empty = recon_open(own_times, 0, own_ids, 0, 16, 64, marks, 0, needed, 0, query, sizeof query);
     recon_answer_t all = recon_answer(their_times, THEIRS, their_ids, sizeof their_ids, 16, 64, query, empty.length, reply, sizeof reply);
     reply_length = all.length;
-    size_t joined = used(THEIRS, 0), refused = used(THEIRS - 1, 11);
-    printf("a take keeps %zu KiB on the stack, one that is refused by 11 %zu KiB\n", joined / 1024, refused / 1024);
-    return joined <= LIMIT && refused <= LIMIT ? 0 : 1;
+    size_t joined = used(THEIRS, 0), refused = used(THEIRS - 1, 11), trees = used_for_trees();
+    printf("a take keeps %zu KiB on the stack, one that is refused by 11 %zu KiB, a call on a tree %zu KiB\n", joined / 1024, refused / 1024,
+           trees / 1024);
+    return joined <= LIMIT && refused <= LIMIT && trees <= TREE_LIMIT ? 0 : 1;
 }

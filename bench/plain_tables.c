@@ -48,9 +48,9 @@ uint64_t plain_check_table_words(const uint64_t *times, size_t n, const uint8_t 
     return n > 0 && times[n - 1] == UINT64_MAX ? 2 : 0;
 }
 
-/* The sum of the ids, least significant word first: four words with carry, of which gcc -O2 makes an add and three adc. Two sums of 128 bits,
-   and __builtin_add_overflow word by word, were slower. */
-static void add_ids(const uint8_t *ids, size_t id_bytes, uint64_t sum[4]) {
+/* Four words with carry, of which gcc -O2 makes an add and three adc. Two sums of 128 bits, and __builtin_add_overflow word by word, were
+   slower. */
+void plain_add_ids(const uint8_t *ids, size_t id_bytes, uint64_t sum[4]) {
     unsigned long long a = 0, b = 0, c = 0, d = 0;
     const uint8_t *end = ids + id_bytes;
     for (const uint8_t *id = ids; id < end; id += 32) {
@@ -83,7 +83,7 @@ static size_t put_varint(uint8_t *p, uint64_t value) {
 void plain_fingerprint(const uint8_t *ids, size_t id_bytes, uint8_t out[16]) {
     uint64_t sum[4];
     uint8_t label[42], digest[32];
-    add_ids(ids, id_bytes, sum);
+    plain_add_ids(ids, id_bytes, sum);
     memcpy(label, sum, 32);
     plain_sha256(label, 32 + put_varint(label + 32, id_bytes / 32), digest);
     memcpy(out, digest, 16);

@@ -10,6 +10,9 @@ uint64_t plain_check_table(const uint64_t *times, size_t n, const uint8_t *ids, 
 /* The same, with ids compared by words instead of memcmp. */
 uint64_t plain_check_table_words(const uint64_t *times, size_t n, const uint8_t *ids, size_t id_bytes);
 
+/* The sum of ids of 32 bytes each, modulo 2^256, least significant word first. */
+void plain_add_ids(const uint8_t *ids, size_t id_bytes, uint64_t sum[4]);
+
 /* The fingerprint of ids of 32 bytes each: the first 16 bytes of SHA-256 over their sum modulo 2^256 and their number as a varint. */
 void plain_fingerprint(const uint8_t *ids, size_t id_bytes, uint8_t out[16]);
 

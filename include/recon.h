@@ -125,7 +125,7 @@ typedef struct {
 
 /* What the label of a run answers. */
 typedef struct {
-    uint64_t refusal;  /* the number of the refusal, 0 for none; then the rest is 0 */
+    uint64_t refusal;  /* the number of the refusal, 0 for none; where the call is refused, the rest is 0 */
     recon_label label; /* of the items at the places of the run */
     uint64_t visited;  /* how many labels of the tree were visited for it */
 } recon_tree_answer;
@@ -187,7 +187,7 @@ uint64_t recon_tree_build(const uint64_t *times, size_t times_len, const uint8_t
    is lent as it was before the item, and is not changed: the caller puts the item behind it. The item's label is stored at the first free
    place, and the k labels above that place are made afresh from their halves. The checks take time in proportion to the items, the rest to k.
    Answers 0, or refuses by 1 (or id_len is not 32), 2 (or the item is not above the last, or its time is 2^64 - 1) or 13 (tree_len is not
-   recon_tree_bytes(times_len), or no place is free), and then the tree stays. No place is free where the items are 2^k, 1 included. Then
+   recon_tree_bytes(times_len), or no place is free), and then the tree stays. No place is free where the items are a power of two, 1 too. Then
    put the item behind the table, and build the tree over it: of twice the places, so of recon_tree_bytes(times_len + 1) bytes. (A table of
    RECON_MAX_ITEMS takes no more.) */
 uint64_t recon_tree_append(const uint64_t *times, size_t times_len, const uint8_t *ids, size_t ids_len, uint64_t time, const uint8_t *id,
@@ -198,7 +198,7 @@ uint64_t recon_tree_append(const uint64_t *times, size_t times_len, const uint8_
    its places are all inside the run or all outside: at most 4 * (k + 1) labels, and the call takes time in proportion to them.
    No table is handed over, and a tree of any k is taken. One that is not from a build and appends answers by the labels stored in it, counts
    added modulo 2^64.
-   Refuses by 13 (tree_len is not 40 * (2^(k+1) - 1) for any k); label and visited are then 0. */
+   Refuses by 13 (tree_len is not 40 * (2^(k+1) - 1) for any k). */
 recon_tree_answer recon_tree_label(const uint8_t *tree, size_t tree_len, size_t from, size_t to);
 
 /* Null pointers with length 0. The library's functions are proved for slices, whose pointers are not null even where they are empty. So each call

@@ -117,6 +117,7 @@ inside from to first size = leb from first && leb (first + size) to
 
 -- SPEC 11.7: "a half wholly inside or outside the run counts one and is not opened, any other counts one and both its halves are visited": label i, of the
 -- 2 ^ h places from `first` on. One place is inside or outside.
+-- SPEC 11.9: "A tree that is not from build and appends answers by its stored labels, counts added modulo 2^64": whatever the bytes are, `add` adds them.
 unfoldable pub visit : List ℕ → ℕ → ℕ → ℕ → ℕ → ℕ → Found
 visit tree from to zero i first =
     cond (outside from to first 1) (record { label = empty; visited = 1 }) (record { label = labelAt tree i; visited = 1 })

@@ -3,11 +3,11 @@ use mathlib.Core.Bool.{false}
 use mathlib.Core.Path.{_≡_}
 use mathlib.Core.List.{List}
 use Prim.Native.Nat.{ℕ, _+_, _-_, _*_, _^_, _≤_}
-use lib.ListN.{length, take, drop}
+use lib.ListN.{take, drop}
 use Rattle.table.specs.Answer.{answer}
 use Rattle.table.specs.Table.{Item, Table, items, idsOf}
 use Rattle.label.specs.Label.{empty, labelOf}
-use Rattle.tree.specs.Tree.{Found, depthOf, depthIn, wrongTree, build, append, grown, labelOfRun}
+use Rattle.tree.specs.Tree.{Found, depthOf, depthFor, depthIn, wrongTree, build, append, grown, labelOfRun}
 
 -- SPEC 11.8: "every tree that came from a build and appends", and the table that it then belongs to
 pub data Kept : Table → List ℕ → Type 0 where
@@ -19,7 +19,7 @@ pub data Kept : Table → List ℕ → Type 0 where
 pub record Told (T : Table) (tree : List ℕ) (from to : ℕ) : Type 0 where
   pub visited : ℕ
   pub told : labelOfRun tree from to ≡ answer (record { label = labelOf (idsOf (take (to - from) (drop from (items T)))); visited = visited })
-  pub few : visited ≤ 4 * (depthOf (length (T .times)) + 1)
+  pub few : visited ≤ 4 * (depthFor T + 1)
 
 abbrev pub RunsTold : Type 0
 RunsTold = (T : Table) (tree : List ℕ) → Kept T tree → (from to : ℕ) → Told T tree from to

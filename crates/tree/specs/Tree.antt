@@ -66,11 +66,18 @@ renewAbove (suc h) i tree = renewAbove h ((i - 1) / 2) (renew ((i - 1) / 2) tree
 
 -- ---- build and append: the tree afterwards, or a refusal
 
+-- n, and k for a table
+abbrev pub count : Table → ℕ
+count T = length (T .times)
+
+abbrev pub depthFor : Table → ℕ
+depthFor T = depthOf (count T)
+
 -- SPEC 11.3: "Build makes the lent bytes the tree over a table." Of the bytes before, only their number counts.
 unfoldable pub build : Table → List ℕ → Answer (List ℕ)
 build T tree = judgeTable T
-    (refuseIf 13 (wrongTree (depthOf (length (T .times))) tree)
-    (answer (treeOver (depthOf (length (T .times))) (idsOf (items T)))))
+    (refuseIf 13 (wrongTree (depthFor T) tree)
+    (answer (treeOver (depthFor T) (idsOf (items T)))))
 
 -- the item that a time and the bytes of an id make
 abbrev pub item : ℕ → List ℕ → Item
@@ -94,8 +101,8 @@ unfoldable pub append : Table → Item → List ℕ → Answer (List ℕ)
 append T i tree =
     refuseIf 1 (wrongSize T || not (eqb (length (i .id)) 32))
     (refuseIf 2 (notRising (grown T i))
-    (refuseIf 13 (wrongTree (depthOf (length (T .times))) tree || noneFree (depthOf (length (T .times))) (length (T .times)))
-    (answer (appended (depthOf (length (T .times))) (length (T .times)) (i .id) tree))))
+    (refuseIf 13 (wrongTree (depthFor T) tree || noneFree (depthFor T) (count T))
+    (answer (appended (depthFor T) (count T) (i .id) tree))))
 
 -- ---- the label of a run of places, "from one to below another" (SPEC 11.6)
 

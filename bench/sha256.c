@@ -5,8 +5,8 @@
 #include <stdio.h>
 #include <stdlib.h>
 #include <string.h>
-#include <time.h>
 
+#include "measure.h"
 #include "plain_sha256.h"
 #include "recon.h"
 
@@ -21,12 +21,6 @@ static void openssl_sha256(const uint8_t *m, size_t n, uint8_t out[32]) {
 }
 
 static void (*const hash[3])(const uint8_t *, size_t, uint8_t *) = {recon_sha256, plain_sha256, openssl_sha256};
-
-static double seconds(void) {
-    struct timespec t;
-    clock_gettime(CLOCK_PROCESS_CPUTIME_ID, &t);
-    return t.tv_sec + 1e-9 * t.tv_nsec;
-}
 
 /* Hashes the first n bytes of m `repeats` times by each of the three, and sets the least time of each. */
 static void measure(uint8_t *m, size_t n, int repeats, double best[3]) {

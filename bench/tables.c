@@ -5,8 +5,8 @@
 #include <stdio.h>
 #include <stdlib.h>
 #include <string.h>
-#include <time.h>
 
+#include "measure.h"
 #include "plain_tables.h"
 #include "recon.h"
 
@@ -69,19 +69,6 @@ static result reading(table t, bool ids_too) {
     if (ids_too)
         r.refusal += sum_words(t.ids, ID_BYTES);
     return r;
-}
-
-static double seconds(void) {
-    struct timespec t;
-    clock_gettime(CLOCK_PROCESS_CPUTIME_ID, &t);
-    return t.tv_sec + 1e-9 * t.tv_nsec;
-}
-
-static void must(int holds) {
-    if (!holds) {
-        printf("the results differ\n");
-        exit(1);
-    }
 }
 
 static int same(result a, result b) { return a.refusal == b.refusal && memcmp(a.fingerprint, b.fingerprint, 16) == 0; }

@@ -5,8 +5,8 @@
 #include <stdio.h>
 #include <stdlib.h>
 #include <string.h>
-#include <time.h>
 
+#include "measure.h"
 #include "plain_trees.h"
 #include "recon.h"
 
@@ -25,19 +25,6 @@ typedef struct {
 /* The labels of the runs, and how many labels were visited for each. */
 static uint8_t by_proved[RUNS][40], by_plain[RUNS][40], by_sum[RUNS][40];
 static uint64_t visited_by_proved[RUNS], visited_by_plain[RUNS];
-
-static double seconds(void) {
-    struct timespec t;
-    clock_gettime(CLOCK_PROCESS_CPUTIME_ID, &t);
-    return t.tv_sec + 1e-9 * t.tv_nsec;
-}
-
-static void must(int holds) {
-    if (!holds) {
-        printf("the results differ\n");
-        exit(1);
-    }
-}
 
 static void proved_build(input *in) { must(recon_tree_build(in->times, in->n, in->ids, 32 * in->n, in->proved, in->bytes) == 0); }
 

@@ -5,6 +5,7 @@ use crate::input::{After, Input, Regions};
 use crate::show;
 use crate::tree::{check_run, TreeAfter, TreeInput};
 use recon::{Sent, Table};
+use std::fmt::Debug;
 
 /// A check: what it gives, or what differs.
 pub type Check<T = ()> = Result<T, String>;
@@ -100,20 +101,38 @@ impl<'a> Comparer<'a> {
         }
     }
 
-    /// Makes a call with both implementations; what both answer.
-    pub fn call(&mut self, input: &Input<'_>) -> Check<After> {
+    /// Makes a call with both implementations; what each gives. The first makes it with every slice beside an
+    /// inaccessible page, unless one does not fit.
+    fn both<T>(
+        &mut self,
+        text: impl FnOnce() -> String,
+        guarded: impl FnOnce(&mut Regions, &dyn Calls, Side) -> Option<T>,
+        plain: impl Fn(&dyn Calls) -> T,
+    ) -> (T, T) {
         if self.show {
-            print!("{}", show::input(input));
+            print!("{}", text());
         }
         let side = self.next_side();
-        let guarded = self.regions.run(self.first, input, side);
+        let guarded = guarded(&mut self.regions, self.first, side);
         self.counts.guarded += u64::from(guarded.is_some());
-        let (first, unchanged) = guarded.unwrap_or_else(|| (input.run(self.first), true));
-        let second = input.run(self.second);
+        (guarded.unwrap_or_else(|| plain(self.first)), plain(self.second))
+    }
+
+    fn show_outcomes(&self, first: impl Debug, second: impl Debug) {
         if self.show {
-            println!("  {}: {:?}", self.first.name(), first.outcome);
-            println!("  {}: {:?}", self.second.name(), second.outcome);
+            println!("  {}: {:?}", self.first.name(), first);
+            println!("  {}: {:?}", self.second.name(), second);
         }
+    }
+
+    /// Makes a call with both implementations; what both answer.
+    pub fn call(&mut self, input: &Input<'_>) -> Check<After> {
+        let ((first, unchanged), (second, _)) = self.both(
+            || show::input(input),
+            |regions, calls, side| regions.run(calls, input, side),
+            |calls| (input.run(calls), true),
+        );
+        self.show_outcomes(first.outcome, second.outcome);
         let names = format!("{} and {}", self.first.name(), self.second.name());
         compare_after(&first, &second, &names)
             .and_then(|()| check_lent(input, &first, unchanged))
@@ -137,14 +156,11 @@ impl<'a> Comparer<'a> {
     /// The fingerprint call with both implementations.
     pub fn fingerprint(&mut self, table: Table<'_>, bounds: [GivenBound<'_>; 2]) -> Check<Result<[u8; 16], u8>> {
         let [lower, upper] = bounds;
-        if self.show {
-            print!("{}", show::fingerprint(table, lower, upper));
-        }
-        let side = self.next_side();
-        let guarded = self.regions.fingerprint(self.first, table, bounds, side);
-        self.counts.guarded += u64::from(guarded.is_some());
-        let first = guarded.unwrap_or_else(|| self.first.fingerprint(table, lower, upper));
-        let second = self.second.fingerprint(table, lower, upper);
+        let (first, second) = self.both(
+            || show::fingerprint(table, lower, upper),
+            |regions, calls, side| regions.fingerprint(calls, table, bounds, side),
+            |calls| calls.fingerprint(table, lower, upper),
+        );
         if first != second {
             let names = (self.first.name(), self.second.name());
             return Err(format!("fingerprint: {:?} tell {:?} and {:?}", names, first, second));
@@ -154,32 +170,23 @@ impl<'a> Comparer<'a> {
 
     /// SHA-256 with both implementations.
     pub fn sha256(&mut self, message: &[u8]) -> Check<[u8; 32]> {
-        if self.show {
-            println!("sha256 of {} bytes {}", message.len(), show::hex(message));
-        }
-        let side = self.next_side();
-        let guarded = self.regions.sha256(self.first, message, side);
-        self.counts.guarded += u64::from(guarded.is_some());
-        let first = guarded.unwrap_or_else(|| self.first.sha256(message));
-        let second = self.second.sha256(message);
+        let (first, second) = self.both(
+            || format!("sha256 of {} bytes {}\n", message.len(), show::hex(message)),
+            |regions, calls, side| regions.sha256(calls, message, side),
+            |calls| calls.sha256(message),
+        );
         same_bytes(&first, &second, || format!("digests of {} bytes", message.len()))?;
         Ok(first)
     }
 
     /// A build or an append with both implementations; what both answer.
     pub fn tree(&mut self, input: &TreeInput<'_>) -> Check<TreeAfter> {
-        if self.show {
-            print!("{}", show::tree(input));
-        }
-        let side = self.next_side();
-        let guarded = self.regions.tree(self.first, input, side);
-        self.counts.guarded += u64::from(guarded.is_some());
-        let (first, unchanged) = guarded.unwrap_or_else(|| (input.run(self.first), true));
-        let second = input.run(self.second);
-        if self.show {
-            println!("  {}: {:?}", self.first.name(), first.outcome);
-            println!("  {}: {:?}", self.second.name(), second.outcome);
-        }
+        let ((first, unchanged), (second, _)) = self.both(
+            || show::tree(input),
+            |regions, calls, side| regions.tree(calls, input, side),
+            |calls| (input.run(calls), true),
+        );
+        self.show_outcomes(first.outcome, second.outcome);
         let names = format!("{} and {}", self.first.name(), self.second.name());
         compare_trees(&first, &second, &names)
             .and_then(|()| check_read(unchanged))
@@ -191,14 +198,11 @@ impl<'a> Comparer<'a> {
 
     /// The label of a run with both implementations.
     pub fn tree_label(&mut self, tree: &[u8], from: usize, to: usize) -> Check<RunOutcome> {
-        if self.show {
-            print!("{}", show::tree_run(tree, from, to));
-        }
-        let side = self.next_side();
-        let guarded = self.regions.tree_label(self.first, tree, (from, to), side);
-        self.counts.guarded += u64::from(guarded.is_some());
-        let (first, unchanged) = guarded.unwrap_or_else(|| (self.first.tree_label(tree, from, to), true));
-        let second = self.second.tree_label(tree, from, to);
+        let ((first, unchanged), (second, _)) = self.both(
+            || show::tree_run(tree, from, to),
+            |regions, calls, side| regions.tree_label(calls, tree, (from, to), side),
+            |calls| (calls.tree_label(tree, from, to), true),
+        );
         let told = |text| format!("{} from {} to {}: {}", TreeCall::Run.name(), from, to, text);
         if first != second {
             let names = (self.first.name(), self.second.name());

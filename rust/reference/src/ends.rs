@@ -3,7 +3,8 @@
 use crate::bound::{Bound, Id};
 use crate::cutting::{cutting, list, parts, whole, Cut};
 use crate::label::Label;
-use crate::message::{offers_other_version, read, write, write_version, Payload, Range};
+use crate::limit::Limit;
+use crate::message::{offers_other_version, read, write_version, Payload, Range};
 use crate::refusal;
 use crate::table::{to_id, Items, Table};
 use std::iter::Peekable;
@@ -63,8 +64,22 @@ impl GivenBound {
 /// Answer: the reply to a query, and its length. Refuses by 1, 2, 3, 6 to 10 and 12. Of a query of another version it shall
 /// "read nothing more", so that 7 to 10 don't meet it.
 pub fn answer(times: &[u64], ids: &[u8], b: usize, t: usize, query: &[u8], out: &mut [u8]) -> Result<usize, u8> {
+    answer_within(times, ids, b, t, None, query, out)
+}
+
+/// Answer with a byte limit, or none. With one it refuses by 14, too.
+pub fn answer_within(
+    times: &[u64],
+    ids: &[u8],
+    b: usize,
+    t: usize,
+    bytes: Option<usize>,
+    query: &[u8],
+    out: &mut [u8],
+) -> Result<usize, u8> {
     let table = Table::lent(times, ids)?; // 1, 2
     let cut = Cut::given(b, t)?; // 3
+    let limit = Limit::given(bytes)?; // 14
     if offers_other_version(query) {
         return write_version(out); // 12
     }
@@ -82,7 +97,7 @@ pub fn answer(times: &[u64], ids: &[u8], b: usize, t: usize, query: &[u8], out: 
             Payload::Ids(_) => reply.push(list(&table, items, upper)),
         }
     }
-    write(reply, out) // 12
+    limit.write(&table, reply, out) // 12
 }
 
 /// Both ends: "a fingerprint equal to its own gives skip. Another fingerprint gives the cutting of that range."
@@ -113,11 +128,27 @@ pub fn open(
     needed: &[u8],
     out: &mut [u8],
 ) -> Result<Sent, u8> {
+    open_within(times, ids, b, t, None, marks, needed, out)
+}
+
+/// Open with a byte limit, or none. With one it refuses by 14, too.
+#[allow(clippy::too_many_arguments)]
+pub fn open_within(
+    times: &[u64],
+    ids: &[u8],
+    b: usize,
+    t: usize,
+    bytes: Option<usize>,
+    marks: &mut [u8],
+    needed: &[u8],
+    out: &mut [u8],
+) -> Result<Sent, u8> {
     let table = Table::lent(times, ids)?; // 1, 2
     let cut = Cut::given(b, t)?; // 3
+    let limit = Limit::given(bytes)?; // 14
     judge_buffers(&table, marks, needed)?; // 4
     let parts = parts(&table, cut, 0..table.count());
-    let length = write(cutting(&table, &parts, Bound::Infinity), out)?; // 12
+    let length = limit.write(&table, cutting(&table, &parts, Bound::Infinity), out)?; // 12
     marks.fill(0);
     let session = Session {
         marked: 0,
@@ -148,8 +179,26 @@ pub fn take(
     needed: &mut [u8],
     out: &mut [u8],
 ) -> Result<Sent, u8> {
+    take_within(times, ids, b, t, None, reply, session, marks, needed, out)
+}
+
+/// Take with a byte limit, or none. With one it refuses by 14, too.
+#[allow(clippy::too_many_arguments)]
+pub fn take_within(
+    times: &[u64],
+    ids: &[u8],
+    b: usize,
+    t: usize,
+    bytes: Option<usize>,
+    reply: &[u8],
+    session: Session,
+    marks: &mut [u8],
+    needed: &mut [u8],
+    out: &mut [u8],
+) -> Result<Sent, u8> {
     let table = Table::lent(times, ids)?; // 1, 2
     let cut = Cut::given(b, t)?; // 3
+    let limit = Limit::given(bytes)?; // 14
     judge_buffers(&table, marks, needed)?; // 4
     let mut report = Report::judged(session, marks, needed)?; // 4
     if session.done {
@@ -162,9 +211,9 @@ pub fn take(
         return Err(refusal::NEEDED_ROOM);
     }
     // "If the next query would be skips only, the session is done and nothing is written; otherwise the query is
-    // written."
+    // written." A byte limit comes after that.
     let done = next.iter().all(|range| range.payload == Payload::Skip);
-    let length = if done { 0 } else { write(next, out)? }; // 12
+    let length = if done { 0 } else { limit.write(&table, next, out)? }; // 12
     report.lay(marks, needed);
     let session = report.session(done);
     Ok(Sent { length, session })

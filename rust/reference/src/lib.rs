@@ -2,7 +2,8 @@
 //!
 //! A plain reference, written from the specification and without dependencies. The files follow its headings:
 //! `bound` and `table` (Tables and bounds), `label` and `sha256` (Fingerprints), `cursor` and `message` (Messages),
-//! `cutting` (Cutting), `ends` (The two ends), `tree` (Labels kept in a tree), `refusal` (In checking order).
+//! `cutting` (Cutting), `ends` (The two ends), `tree` (Labels kept in a tree), `limit` (Byte limits), `refusal` (In checking
+//! order).
 //!
 //! Quotation marks in comments hold words of the specification. Every refusal is its number there, in `Err`.
 //! A refused call has changed no lent byte.
@@ -15,6 +16,7 @@ mod cursor;
 mod cutting;
 mod ends;
 mod label;
+mod limit;
 mod message;
 mod refusal;
 mod sha256;
@@ -22,7 +24,7 @@ mod table;
 mod tree;
 
 pub use bound::Bound;
-pub use ends::{answer, fingerprint, open, take, GivenBound, Sent, Session};
+pub use ends::{answer, answer_within, fingerprint, open, open_within, take, take_within, GivenBound, Sent, Session};
 pub use label::Label;
 pub use message::{read, spell, tidy, write, Payload, Range};
 pub use sha256::sha256;

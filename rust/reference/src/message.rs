@@ -182,25 +182,42 @@ fn drop_final_skip(ranges: &mut Vec<Range>) {
 ///
 /// If the times fall or a time is 2^64 − 1 after time 0: no time code spells that.
 pub fn spell(ranges: &[Range]) -> Vec<u8> {
+    spell_each(ranges, |_| ())
+}
+
+/// The lengths of the messages that have the first 0, 1, 2 and so on of these ranges, the last one that of all.
+pub fn lengths(ranges: &[Range]) -> Vec<usize> {
+    let mut lengths = vec![1];
+    spell_each(ranges, |length| lengths.push(length));
+    lengths
+}
+
+/// Spells the ranges, and tells the length so far behind each of them.
+fn spell_each(ranges: &[Range], mut tell: impl FnMut(usize)) -> Vec<u8> {
     let mut message = vec![VERSION];
     let mut previous = 0;
     for range in ranges {
         previous = spell_bound(&mut message, &range.upper, previous);
-        match &range.payload {
-            Payload::Skip => push_varint(&mut message, 0),
-            Payload::Fingerprint(fingerprint) => {
-                push_varint(&mut message, 1);
-                message.extend_from_slice(fingerprint);
-            }
-            Payload::Ids(ids) => {
-                push_varint(&mut message, 2);
-                push_varint(&mut message, ids.len() as u64);
-                message.reserve(32 * ids.len());
-                ids.iter().for_each(|id| message.extend_from_slice(id));
-            }
-        }
+        spell_payload(&mut message, &range.payload);
+        tell(message.len());
     }
     message
+}
+
+fn spell_payload(message: &mut Vec<u8>, payload: &Payload) {
+    match payload {
+        Payload::Skip => push_varint(message, 0),
+        Payload::Fingerprint(fingerprint) => {
+            push_varint(message, 1);
+            message.extend_from_slice(fingerprint);
+        }
+        Payload::Ids(ids) => {
+            push_varint(message, 2);
+            push_varint(message, ids.len() as u64);
+            message.reserve(32 * ids.len());
+            ids.iter().for_each(|id| message.extend_from_slice(id));
+        }
+    }
 }
 
 /// "A bound is a varint time code, a varint prefix length, and the prefix." Gives the time to count from next.

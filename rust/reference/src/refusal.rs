@@ -26,3 +26,5 @@ pub const NEEDED_ROOM: u8 = 11;
 pub const OUT_ROOM: u8 = 12;
 /// "The tree isn't 40 × (2^(k+1) − 1) bytes or an append finds no place free". It comes "after 2".
 pub const TREE: u8 = 13;
+/// "A limit below 4,096". It comes "after 3".
+pub const BYTES: u8 = 14;

@@ -2,6 +2,7 @@
 //!
 //! E1 to E11 are the specification's examples.
 
+mod byte_limits;
 mod examples;
 mod hashing;
 mod reading;

@@ -10,6 +10,7 @@ struct Call {
     ids: Vec<u8>,
     b: usize,
     t: usize,
+    bytes: Option<usize>,
     message: Vec<u8>,
     session: Session,
     marks: Vec<u8>,
@@ -25,6 +26,7 @@ impl Call {
             ids: [id(1), id(2), id(3)].concat(),
             b: 2,
             t: 2,
+            bytes: None,
             message: joined(&[&bytes("61 07 00 02 01"), &id(0xaa), &bytes("00 00 01 BB*16")]),
             session: Session {
                 marked: 1,
@@ -43,13 +45,14 @@ impl Call {
             ids,
             b,
             t,
+            bytes,
             message,
             session,
             marks,
             needed,
             out,
         } = self;
-        reference::take(times, ids, *b, *t, message, *session, marks, needed, out)
+        reference::take_within(times, ids, *b, *t, *bytes, message, *session, marks, needed, out)
     }
 
     fn open(&mut self) -> Result<reference::Sent, u8> {
@@ -58,12 +61,13 @@ impl Call {
             ids,
             b,
             t,
+            bytes,
             marks,
             needed,
             out,
             ..
         } = self;
-        reference::open(times, ids, *b, *t, marks, needed, out)
+        reference::open_within(times, ids, *b, *t, *bytes, marks, needed, out)
     }
 
     fn answer(&mut self) -> Result<usize, u8> {
@@ -72,11 +76,12 @@ impl Call {
             ids,
             b,
             t,
+            bytes,
             message,
             out,
             ..
         } = self;
-        reference::answer(times, ids, *b, *t, message, out)
+        reference::answer_within(times, ids, *b, *t, *bytes, message, out)
     }
 }
 
@@ -94,6 +99,9 @@ const TAKE_FAULTS: &[(u8, Fault)] = &[
     (3, |call| call.b = 65),
     (3, |call| call.t = 1),
     (3, |call| call.t = 4097),
+    (14, |call| call.bytes = Some(0)),
+    (14, |call| call.bytes = Some(1)),
+    (14, |call| call.bytes = Some(4_095)),
     (4, |call| call.marks.push(0)),
     (4, |call| call.marks.truncate(2)),
     (4, |call| call.needed.push(0)),
@@ -135,28 +143,35 @@ fn single(number: u8) -> Vec<Fault> {
         .collect()
 }
 
+/// A limit that the message does not exceed changes nothing.
 #[test]
 fn good_take() {
-    let mut call = Call::good();
-    let sent = call.take().unwrap();
-    assert_eq!(
-        sent.session,
-        Session {
-            marked: 2,
-            needed: 2,
-            done: false
-        }
-    );
-    let query = joined(&[&bytes("61 07 00 00 00 00 02 01"), &id(3)]);
-    assert_eq!(sent.length, query.len());
-    assert_eq!(sent.length, 40);
-    let expected = Call {
-        marks: vec![1, 1, 0],
-        needed: [id(0xa0), id(0xaa)].concat(),
-        out: [query, vec![0xcc; 20]].concat(),
-        ..Call::good()
-    };
-    assert_eq!(call, expected);
+    for limit in [None, Some(4_096), Some(usize::MAX)] {
+        let good = Call {
+            bytes: limit,
+            ..Call::good()
+        };
+        let mut call = good.clone();
+        let sent = call.take().unwrap();
+        assert_eq!(
+            sent.session,
+            Session {
+                marked: 2,
+                needed: 2,
+                done: false
+            }
+        );
+        let query = joined(&[&bytes("61 07 00 00 00 00 02 01"), &id(3)]);
+        assert_eq!(sent.length, query.len());
+        assert_eq!(sent.length, 40);
+        let expected = Call {
+            marks: vec![1, 1, 0],
+            needed: [id(0xa0), id(0xaa)].concat(),
+            out: [query, vec![0xcc; 20]].concat(),
+            ..good
+        };
+        assert_eq!(call, expected);
+    }
 }
 
 /// Of two faults, the one that is checked first counts.
@@ -181,15 +196,16 @@ fn take_pairs_of_faults() {
     }
 }
 
-/// Answer checks 1, 2, 3, 6 to 10 and 12.
+/// Answer checks 1, 2, 3, 14, 6 to 10 and 12.
 #[test]
 fn answer_pairs_of_faults() {
-    let numbers = [1, 2, 3, 6, 7, 8, 9, 10, 12];
+    let numbers = [1, 2, 3, 14, 6, 7, 8, 9, 10, 12];
+    let by_reading = |number: &u8| (6..=10).contains(number);
     let good = Call::good();
     for (i, first) in numbers.iter().enumerate() {
         for second in numbers[i..]
             .iter()
-            .filter(|&&second| second > 10 || *first < 6 || second == *first)
+            .filter(|second| !by_reading(second) || !by_reading(first) || *second == first)
         {
             for (put_first, put_second) in single(*first).iter().zip(single(*second).iter().cycle()) {
                 let mut call = good.clone();
@@ -216,7 +232,7 @@ fn answer_pairs_of_faults() {
     }
 }
 
-/// Open checks 1, 2, 3, 4 (lengths only) and 12.
+/// Open checks 1, 2, 3, 14, 4 (lengths only) and 12.
 #[test]
 fn open_pairs_of_faults() {
     let lengths: [Fault; 3] = [
@@ -230,6 +246,7 @@ fn open_pairs_of_faults() {
         (1, single(1)),
         (2, single(2)),
         (3, single(3)),
+        (14, single(14)),
         (4, lengths.to_vec()),
         (12, room.to_vec()),
     ];

@@ -14,6 +14,8 @@ pub struct Opener {
     pub table: Lent,
     pub b: usize,
     pub t: usize,
+    /// The byte limit of the next take.
+    pub bytes: Option<usize>,
     pub session: Session,
     pub marks: Vec<u8>,
     pub needed: Vec<Id>,
@@ -22,9 +24,15 @@ pub struct Opener {
 impl Opener {
     /// An opening that isn't refused, and its query.
     pub fn open(table: Lent, b: usize, t: usize) -> (Opener, Vec<u8>) {
+        Opener::open_within(table, b, t, None)
+    }
+
+    /// The same with a byte limit, or none.
+    pub fn open_within(table: Lent, b: usize, t: usize, bytes: Option<usize>) -> (Opener, Vec<u8>) {
         let mut marks = vec![0xbb; table.times.len()];
         let mut out = vec![0xcc; 100_000];
-        let sent = reference::open(&table.times, &table.ids, b, t, &mut marks, &[0xdd; 64], &mut out).unwrap();
+        let Lent { times, ids } = &table;
+        let sent = reference::open_within(times, ids, b, t, bytes, &mut marks, &[0xdd; 64], &mut out).unwrap();
         assert_eq!(
             sent.session,
             Session {
@@ -41,6 +49,7 @@ impl Opener {
                 table,
                 b,
                 t,
+                bytes,
                 session: sent.session,
                 marks,
                 needed: vec![],
@@ -57,8 +66,21 @@ impl Opener {
         let before = needed.clone();
         let mut out = vec![0xcc; out_room];
         let Lent { times, ids } = &self.table;
-        let (b, t) = (self.b, self.t);
-        match reference::take(times, ids, b, t, reply, self.session, &mut marks, &mut needed, &mut out) {
+        let Opener {
+            b, t, bytes, session, ..
+        } = *self;
+        match reference::take_within(
+            times,
+            ids,
+            b,
+            t,
+            bytes,
+            reply,
+            session,
+            &mut marks,
+            &mut needed,
+            &mut out,
+        ) {
             Err(number) => {
                 assert!(
                     marks == self.marks && needed == before,
@@ -109,9 +131,9 @@ fn ids(items: &[Item]) -> BTreeSet<Id> {
 }
 
 impl Ends {
-    fn answer(&self, query: &[u8]) -> Vec<u8> {
+    fn answer(&self, bytes: Option<usize>, query: &[u8]) -> Vec<u8> {
         Lent::new(&self.theirs)
-            .answer(self.their_b, self.their_t, query)
+            .answer_within(self.their_b, self.their_t, bytes, query)
             .unwrap()
     }
 
@@ -181,43 +203,101 @@ fn rounds(n: usize, b: usize, t: usize) -> usize {
     l
 }
 
+/// A query that the opener sent.
+#[derive(Clone)]
+struct Query {
+    bytes: Vec<u8>,
+    /// No limit cut it short.
+    whole: bool,
+}
+
 /// A list of takes after one opening.
 struct Takes {
     ends: Ends,
     opener: Opener,
-    sent: Vec<Vec<u8>>,
-    /// Unrefused takes in a row, each handed the answer to the query last sent.
+    sent: Vec<Query>,
+    /// The byte limits of the calls, of both ends; each call has one of them at random.
+    limits: Vec<Option<usize>>,
+    random: Random,
+    /// Unrefused takes in a row, each handed the answer to the query last sent, both whole.
     row: usize,
     excused: BTreeSet<Id>,
     unrefused: usize,
+    /// Queries and answers that were cut short.
+    short: [usize; 2],
     refused: [usize; 13],
 }
 
 impl Takes {
     fn new(ends: Ends, b: usize, t: usize) -> Takes {
-        let (opener, query) = Opener::open(Lent::new(&ends.ours), b, t);
-        let sent = vec![query];
+        Takes::within(ends, b, t, vec![None])
+    }
+
+    fn within(ends: Ends, b: usize, t: usize, limits: Vec<Option<usize>>) -> Takes {
+        let mut random = Random(0);
+        let bytes = limits[random.below(limits.len())];
+        let (opener, query) = Opener::open_within(Lent::new(&ends.ours), b, t, bytes);
+        let whole = query == Opener::open(Lent::new(&ends.ours), b, t).1;
+        assert!(bytes.map_or(true, |limit| query.len() <= limit));
         Takes {
             ends,
             opener,
-            sent,
+            sent: vec![Query { bytes: query, whole }],
+            limits,
+            random,
             row: 0,
             excused: BTreeSet::new(),
             unrefused: 0,
+            short: [usize::from(!whole), 0],
             refused: [0; 13],
         }
+    }
+
+    fn limit_by_chance(&mut self) -> Option<usize> {
+        self.limits[self.random.below(self.limits.len())]
+    }
+
+    /// An answer, and whether it is whole.
+    fn answer(&mut self, query: &[u8]) -> (Vec<u8>, bool) {
+        let limit = self.limit_by_chance();
+        let answer = self.ends.answer(limit, query);
+        assert!(limit.map_or(true, |limit| answer.len() <= limit));
+        let whole = answer == self.ends.answer(None, query);
+        self.short[1] += usize::from(!whole);
+        (answer, whole)
+    }
+
+    /// The next query of an unrefused take, empty if done, and whether it is whole.
+    fn next(&mut self, answer: &[u8]) -> Query {
+        let room = self.ends.theirs.len();
+        let mut without = self.opener.clone();
+        without.bytes = None;
+        let expected = without.take(answer, room, 100_000).unwrap();
+        self.opener.bytes = self.limit_by_chance();
+        let bytes = self.opener.take(answer, room, 100_000).unwrap();
+        assert!(self.opener.bytes.map_or(true, |limit| bytes.len() <= limit));
+        // A limit changes the message alone.
+        let reported = |opener: &Opener| (opener.session, opener.marks.clone(), opener.needed.clone());
+        assert!(reported(&self.opener) == reported(&without));
+        let whole = bytes == expected;
+        self.short[0] += usize::from(!whole);
+        Query { bytes, whole }
     }
 
     /// An unrefused take of the answer to a query sent before.
     fn take(&mut self, query: usize) {
         let query = self.sent[query].clone();
-        let answer = self.ends.answer(&query);
-        let is_last = Some(&query) == self.sent.last();
-        let next = self.opener.take(&answer, self.ends.theirs.len(), 100_000).unwrap();
-        self.excused.extend(self.ends.colliding(&query));
+        let (answer, whole) = self.answer(&query.bytes);
+        let is_last = self.sent.last().map_or(false, |last| last.bytes == query.bytes);
+        let next = self.next(&answer);
+        self.excused.extend(self.ends.colliding(&query.bytes));
         self.excused.extend(self.ends.colliding(&answer));
         self.unrefused += 1;
-        self.row = if is_last { self.row + 1 } else { 0 };
+        self.row = if is_last && whole && query.whole {
+            self.row + 1
+        } else {
+            0
+        };
         self.ends.check_truth(&self.opener);
         if self.opener.session.done {
             self.ends.check_complete(&self.opener, &self.excused);
@@ -238,7 +318,7 @@ impl Takes {
 
     /// A take that is refused; if the inputs chosen don't make it so, none.
     fn refused(&mut self, random: &mut Random) {
-        let mut answer = self.ends.answer(&self.sent[random.below(self.sent.len())]);
+        let mut answer = self.ends.answer(None, &self.sent[random.below(self.sent.len())].bytes);
         let mut ids_room = self.ends.theirs.len();
         let mut out_room = 100_000;
         let mut copy = self.opener.clone();
@@ -291,7 +371,13 @@ impl Takes {
 
 /// Two tables in which no id stands under two times. Small ids make equal sums of different ids likely.
 fn random_ends(random: &mut Random, small_ids: bool) -> Ends {
-    let size = random.below(if small_ids { 16 } else { 80 });
+    let most = if small_ids { 16 } else { 80 };
+    ends_of(random, most, small_ids)
+}
+
+/// The same with fewer than so many ids in both together.
+fn ends_of(random: &mut Random, most: usize, small_ids: bool) -> Ends {
+    let size = random.below(most);
     let times = 1 + random.below(if small_ids { 2 } else { 6 });
     let mut pool: Vec<Item> = Vec::new();
     for _ in 0..size {
@@ -370,6 +456,33 @@ fn random_sessions_with_collisions() {
         collided += usize::from(!session.excused.is_empty());
     }
     assert!(collided > 10, "{collided}");
+}
+
+/// Tables whose messages are cut short, with limits at one end, at both, and at some calls.
+#[test]
+fn random_sessions_within_limits() {
+    let limits = [
+        vec![Some(4_096)],
+        vec![Some(4_096), None],
+        vec![Some(4_096), Some(5_000), Some(30_000), Some(usize::MAX), None],
+    ];
+    let mut short = [0; 2];
+    for seed in 0..60 {
+        let _seed = Seed(seed);
+        let mut random = Random(seed);
+        let ends = ends_of(&mut random, 1_200, false);
+        let b = 2 + random.below(8);
+        let t = b + random.below(300);
+        let mut session = Takes::within(ends, b, t, limits[seed as usize % limits.len()].clone());
+        session.run(&mut random);
+        assert!(session.excused.is_empty());
+        assert!(session.unrefused < 1_000);
+        short
+            .iter_mut()
+            .zip(session.short)
+            .for_each(|(sum, count)| *sum += count);
+    }
+    assert!(short.iter().all(|&count| count > 60), "{short:?}");
 }
 
 /// Ids 1 and 4 against 2 and 3 have equal sums and counts: done at once, nothing reported.

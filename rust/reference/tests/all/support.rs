@@ -48,8 +48,12 @@ impl Lent {
     }
 
     pub fn answer(&self, b: usize, t: usize, query: &[u8]) -> Result<Vec<u8>, u8> {
+        self.answer_within(b, t, None, query)
+    }
+
+    pub fn answer_within(&self, b: usize, t: usize, bytes: Option<usize>, query: &[u8]) -> Result<Vec<u8>, u8> {
         let mut out = vec![0xcc; 64 * (self.times.len() + query.len() + 4)];
-        let length = reference::answer(&self.times, &self.ids, b, t, query, &mut out)?;
+        let length = reference::answer_within(&self.times, &self.ids, b, t, bytes, query, &mut out)?;
         assert!(out[length..].iter().all(|&byte| byte == 0xcc));
         out.truncate(length);
         Ok(out)

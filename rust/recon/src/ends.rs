@@ -1,5 +1,6 @@
 //! The two ends of a session, with their buffers.
-use crate::{answer_query, open_session, take_reply, Cut, Refusal, Session, Table, ID_BYTES, MAX_ITEMS};
+use crate::{answer_query, answer_query_within, open_session, open_session_within, take_reply, take_reply_within};
+use crate::{Cut, Refusal, Session, Table, ID_BYTES, MAX_ITEMS};
 use alloc::vec::Vec;
 use core::fmt;
 
@@ -9,11 +10,13 @@ use core::fmt;
 /// [front page](crate) has a whole session.
 ///
 /// Memory: a byte for each item; for queries an eighth of the table's own bytes, or up to twice the longest query; for the needed ids as
-/// many bytes as they have, and up to those of the longest reply.
+/// many bytes as they have, and up to those of the longest reply. Where there is a byte limit from the opening on, queries take no more
+/// than that.
 #[derive(Clone)]
 pub struct Opener<'a> {
     table: Table<'a>,
     cut: Cut,
+    byte_limit: Option<usize>,
     session: Session,
     marks: Vec<u8>,
     needed: Vec<u8>,
@@ -27,15 +30,32 @@ impl<'a> Opener<'a> {
     /// # Errors
     /// Refusals 1 to 3, and 12 where memory cannot be had.
     pub fn open(table: Table<'a>, cut: Cut) -> Result<Opener<'a>, Refusal> {
+        Opener::opened(table, cut, None)
+    }
+
+    /// Opens a session whose first query has at most `byte_limit` bytes. The limit is that of the later queries, too, until
+    /// [`set_byte_limit`](Opener::set_byte_limit) changes it.
+    ///
+    /// # Errors
+    /// Refusals 1 to 3, 14 for a limit below [`MIN_BYTE_LIMIT`](crate::MIN_BYTE_LIMIT), and 12 where memory cannot be had.
+    pub fn open_within(table: Table<'a>, cut: Cut, byte_limit: usize) -> Result<Opener<'a>, Refusal> {
+        Opener::opened(table, cut, Some(byte_limit))
+    }
+
+    fn opened(table: Table<'a>, cut: Cut, byte_limit: Option<usize>) -> Result<Opener<'a>, Refusal> {
         let (mut marks, mut out) = (Vec::new(), Vec::new());
         // A longer table is refused by 1, whatever its marks are.
         if !grow(&mut marks, table.times.len().min(MAX_ITEMS)) {
             return Err(Refusal::NoRoom);
         }
-        let sent = with_room(&mut out, table, |out| open_session(table, cut, &mut marks, &[], out))?;
+        let sent = with_room(&mut out, table, byte_limit, |out| match byte_limit {
+            None => open_session(table, cut, &mut marks, &[], out),
+            Some(bytes) => open_session_within(table, cut, bytes, &mut marks, &[], out),
+        })?;
         Ok(Opener {
             table,
             cut,
+            byte_limit,
             session: sent.session,
             marks,
             needed: Vec::new(),
@@ -53,19 +73,27 @@ impl<'a> Opener<'a> {
         }
     }
 
+    /// Sets the byte limit of the queries that later takes write, or drops it. The query that was written last stays as it is.
+    ///
+    /// The limit is judged by the next take: one below [`MIN_BYTE_LIMIT`](crate::MIN_BYTE_LIMIT) is refused there by 14.
+    pub fn set_byte_limit(&mut self, byte_limit: Option<usize>) {
+        self.byte_limit = byte_limit;
+    }
+
     /// Takes the other end's reply to a query. Replies may come late, repeated and in any order.
     ///
     /// # Errors
-    /// Refusals 5 to 10, and 11 or 12 where memory cannot be had. Then nothing has changed: the query and the reports are as before, and
-    /// another reply can be taken.
+    /// Refusals 5 to 10, 14 for a byte limit that is too small, and 11 or 12 where memory cannot be had. Then nothing has changed: the query
+    /// and the reports are as before, and another reply can be taken.
     pub fn take(&mut self, reply: &[u8]) -> Result<(), Refusal> {
-        let (table, cut, session) = (self.table, self.cut, self.session);
+        let (table, cut, byte_limit, session) = (self.table, self.cut, self.byte_limit, self.session);
         let (marks, needed) = (&mut self.marks, &mut self.needed);
         // With room for all the ids that the reply can list, the call need not count those that are new, which may take it many times as
         // long as all else. If the memory for that cannot be had, it does, and refuses by 11 if they are too many.
         grow(needed, ID_BYTES * (session.needed + reply.len() / ID_BYTES));
-        let sent = with_room(&mut self.out, table, |out| {
-            take_reply(table, cut, reply, session, marks, needed, out)
+        let sent = with_room(&mut self.out, table, byte_limit, |out| match byte_limit {
+            None => take_reply(table, cut, reply, session, marks, needed, out),
+            Some(bytes) => take_reply_within(table, cut, bytes, reply, session, marks, needed, out),
         })?;
         self.session = sent.session;
         self.length = sent.length;
@@ -101,24 +129,37 @@ impl fmt::Debug for Opener<'_> {
     fn fmt(&self, f: &mut fmt::Formatter<'_>) -> fmt::Result {
         let mut shown = f.debug_struct("Opener");
         shown.field("items", &self.marks.len()).field("cut", &self.cut);
+        shown.field("byte_limit", &self.byte_limit);
         shown.field("session", &self.session).finish_non_exhaustive()
     }
 }
 
 /// The end that answers queries. It keeps nothing from one query to the next but the memory for its replies: an eighth of the table's own
-/// bytes, or up to twice the longest reply.
+/// bytes, or up to twice the longest reply. Where there is a byte limit from the first query on, it is no more than that.
 #[derive(Clone)]
 pub struct Responder<'a> {
     table: Table<'a>,
     cut: Cut,
+    byte_limit: Option<usize>,
     out: Vec<u8>,
 }
 
 impl<'a> Responder<'a> {
     /// A responder. Its table and its cut are judged with every query; the cut may be another than the opener's.
     pub fn new(table: Table<'a>, cut: Cut) -> Responder<'a> {
-        let out = Vec::new();
-        Responder { table, cut, out }
+        Responder {
+            table,
+            cut,
+            byte_limit: None,
+            out: Vec::new(),
+        }
+    }
+
+    /// Sets the byte limit of later replies, or drops it. It may be another than the opener's, who need not have one.
+    ///
+    /// The limit is judged with every query: one below [`MIN_BYTE_LIMIT`](crate::MIN_BYTE_LIMIT) is refused there by 14.
+    pub fn set_byte_limit(&mut self, byte_limit: Option<usize>) {
+        self.byte_limit = byte_limit;
     }
 
     /// The reply to a query.
@@ -127,10 +168,14 @@ impl<'a> Responder<'a> {
     /// starts no session: send it on, and the other end may open one with 61.
     ///
     /// # Errors
-    /// Refusals 1 to 3 and 6 to 10, and 12 where memory cannot be had. The next query can be answered all the same.
+    /// Refusals 1 to 3, 14 for a byte limit that is too small, 6 to 10, and 12 where memory cannot be had. The next query can be answered
+    /// all the same.
     pub fn answer(&mut self, query: &[u8]) -> Result<&[u8], Refusal> {
-        let (table, cut) = (self.table, self.cut);
-        let length = with_room(&mut self.out, table, |out| answer_query(table, cut, query, out))?;
+        let (table, cut, byte_limit) = (self.table, self.cut, self.byte_limit);
+        let length = with_room(&mut self.out, table, byte_limit, |out| match byte_limit {
+            None => answer_query(table, cut, query, out),
+            Some(bytes) => answer_query_within(table, cut, bytes, query, out),
+        })?;
         Ok(&self.out[..length])
     }
 }
@@ -142,6 +187,7 @@ impl fmt::Debug for Responder<'_> {
         shown
             .field("items", &items)
             .field("cut", &self.cut)
+            .field("byte_limit", &self.byte_limit)
             .finish_non_exhaustive()
     }
 }
@@ -162,16 +208,19 @@ fn first_room(table: Table<'_>) -> usize {
 }
 
 /// Makes a call, and again with a larger buffer as long as it is refused by 12. A refused call changes nothing. So 12 is answered only
-/// where memory cannot be had.
+/// where memory cannot be had. A message with a byte limit needs no more room than that.
 fn with_room<T>(
     out: &mut Vec<u8>,
     table: Table<'_>,
+    byte_limit: Option<usize>,
     mut call: impl FnMut(&mut [u8]) -> Result<T, Refusal>,
 ) -> Result<T, Refusal> {
-    grow(out, first_room(table));
+    let most = byte_limit.unwrap_or(usize::MAX);
+    grow(out, first_room(table).min(most));
     loop {
+        let next = LEAST_ROOM.max(2 * out.len()).min(most);
         match call(out) {
-            Err(Refusal::NoRoom) if grow(out, LEAST_ROOM.max(2 * out.len())) => {}
+            Err(Refusal::NoRoom) if out.len() < next && grow(out, next) => {}
             answer => return answer,
         }
     }

@@ -46,6 +46,16 @@ impl From<RawSession> for Session {
     }
 }
 
+impl From<Session> for RawSession {
+    fn from(s: Session) -> RawSession {
+        RawSession {
+            marked: s.marked,
+            needed: s.needed,
+            done: s.done,
+        }
+    }
+}
+
 impl From<RawLabel> for Label {
     fn from(l: RawLabel) -> Label {
         Label {
@@ -67,6 +77,19 @@ extern "C" {
     ) -> Answer;
     fn recon_take(
         times: *const u64, times_len: usize, ids: *const u8, ids_len: usize, parts: usize, limit: usize,
+        reply: *const u8, reply_len: usize, session: RawSession, marks: *mut u8, marks_len: usize,
+        needed: *mut u8, needed_len: usize, out: *mut u8, out_len: usize,
+    ) -> SessionAnswer;
+    fn recon_open_within(
+        times: *const u64, times_len: usize, ids: *const u8, ids_len: usize, parts: usize, limit: usize, bytes: usize,
+        marks: *mut u8, marks_len: usize, needed: *const u8, needed_len: usize, out: *mut u8, out_len: usize,
+    ) -> SessionAnswer;
+    fn recon_answer_within(
+        times: *const u64, times_len: usize, ids: *const u8, ids_len: usize, parts: usize, limit: usize, bytes: usize,
+        query: *const u8, query_len: usize, out: *mut u8, out_len: usize,
+    ) -> Answer;
+    fn recon_take_within(
+        times: *const u64, times_len: usize, ids: *const u8, ids_len: usize, parts: usize, limit: usize, bytes: usize,
         reply: *const u8, reply_len: usize, session: RawSession, marks: *mut u8, marks_len: usize,
         needed: *mut u8, needed_len: usize, out: *mut u8, out_len: usize,
     ) -> SessionAnswer;
@@ -118,12 +141,62 @@ pub fn take(
     needed: &mut [u8],
     out: &mut [u8],
 ) -> SessionAnswer {
-    let session = RawSession { marked: session.marked, needed: session.needed, done: session.done };
     // SAFETY: see the head of this file.
     unsafe {
         recon_take(
             table.times.as_ptr(), table.times.len(), table.ids.as_ptr(), table.ids.len(), cut.parts, cut.limit,
-            reply.as_ptr(), reply.len(), session, marks.as_mut_ptr(), marks.len(),
+            reply.as_ptr(), reply.len(), session.into(), marks.as_mut_ptr(), marks.len(),
+            needed.as_mut_ptr(), needed.len(), out.as_mut_ptr(), out.len(),
+        )
+    }
+}
+
+#[rustfmt::skip]
+pub fn open_within(
+    table: Table<'_>,
+    cut: Cut,
+    bytes: usize,
+    marks: &mut [u8],
+    needed: &[u8],
+    out: &mut [u8],
+) -> SessionAnswer {
+    // SAFETY: see the head of this file.
+    unsafe {
+        recon_open_within(
+            table.times.as_ptr(), table.times.len(), table.ids.as_ptr(), table.ids.len(), cut.parts, cut.limit, bytes,
+            marks.as_mut_ptr(), marks.len(), needed.as_ptr(), needed.len(), out.as_mut_ptr(), out.len(),
+        )
+    }
+}
+
+#[rustfmt::skip]
+pub fn answer_within(table: Table<'_>, cut: Cut, bytes: usize, query: &[u8], out: &mut [u8]) -> Answer {
+    // SAFETY: see the head of this file.
+    unsafe {
+        recon_answer_within(
+            table.times.as_ptr(), table.times.len(), table.ids.as_ptr(), table.ids.len(), cut.parts, cut.limit, bytes,
+            query.as_ptr(), query.len(), out.as_mut_ptr(), out.len(),
+        )
+    }
+}
+
+#[rustfmt::skip]
+#[allow(clippy::too_many_arguments)] // As the C call has them.
+pub fn take_within(
+    table: Table<'_>,
+    cut: Cut,
+    bytes: usize,
+    reply: &[u8],
+    session: Session,
+    marks: &mut [u8],
+    needed: &mut [u8],
+    out: &mut [u8],
+) -> SessionAnswer {
+    // SAFETY: see the head of this file.
+    unsafe {
+        recon_take_within(
+            table.times.as_ptr(), table.times.len(), table.ids.as_ptr(), table.ids.len(), cut.parts, cut.limit, bytes,
+            reply.as_ptr(), reply.len(), session.into(), marks.as_mut_ptr(), marks.len(),
             needed.as_mut_ptr(), needed.len(), out.as_mut_ptr(), out.len(),
         )
     }

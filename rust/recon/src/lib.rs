@@ -75,6 +75,35 @@
 //! # Ok::<(), Refusal>(())
 //! ```
 //!
+//! # Byte limits
+//!
+//! Where messages must be short, either end can be given a byte limit, of at least [`MIN_BYTE_LIMIT`]: [`open_session_within`],
+//! [`answer_query_within`] and [`take_reply_within`], or [`Opener::open_within`], [`Opener::set_byte_limit`] and
+//! [`Responder::set_byte_limit`]. A message that would be longer keeps what fits of its ranges and ends with one fingerprint for all that
+//! follows, so that the session takes more rounds. Its reports are as true and as complete. Calls with and without a limit, and with
+//! different ones, may stand in one session in any mix.
+//!
+#![cfg_attr(feature = "alloc", doc = "```")]
+#![cfg_attr(not(feature = "alloc"), doc = "```ignore")]
+//! use recon::{sha256, Cut, Opener, Refusal, Responder, Table, MIN_BYTE_LIMIT};
+//!
+//! let times: Vec<u64> = (0..1000).collect();
+//! let ids: Vec<u8> = times.iter().flat_map(|time| sha256(&time.to_be_bytes())).collect();
+//! let ours = Table { times: &times[..900], ids: &ids[..32 * 900] };
+//! let theirs = Table { times: &times[100..], ids: &ids[32 * 100..] };
+//!
+//! let mut opener = Opener::open_within(ours, Cut::default(), MIN_BYTE_LIMIT)?;
+//! let mut responder = Responder::new(theirs, Cut::default());
+//! responder.set_byte_limit(Some(MIN_BYTE_LIMIT));
+//! while let Some(query) = opener.query() {
+//!     let reply = responder.answer(query)?;
+//!     assert!(query.len() <= 4096 && reply.len() <= 4096);
+//!     opener.take(reply)?;
+//! }
+//! assert_eq!((opener.ours_only().count(), opener.theirs_only().count()), (100, 100));
+//! # Ok::<(), Refusal>(())
+//! ```
+//!
 //! # What all calls share
 //!
 //! No call panics or has a condition: whatever is wrong with what it is handed, it answers with a [`Refusal`], and then it has changed
@@ -105,11 +134,13 @@ mod ends;
 mod ffi;
 mod refusal;
 mod trees;
+mod within;
 
 #[cfg(feature = "alloc")]
 pub use ends::{Opener, Responder};
 pub use refusal::Refusal;
 pub use trees::{append_to_tree, build_tree, label_of_run, tree_bytes, Label, RunLabel};
+pub use within::{answer_query_within, open_session_within, take_reply_within};
 
 /// The version of this crate.
 pub const VERSION: &str = env!("CARGO_PKG_VERSION");
@@ -134,6 +165,9 @@ pub const MAX_PARTS: usize = 64;
 
 /// The largest list limit that a cut may have. The smallest is its parts.
 pub const MAX_LIMIT: usize = 4096;
+
+/// The smallest byte limit that a call may be given.
+pub const MIN_BYTE_LIMIT: usize = 4096;
 
 /// The bytes of the longest opening: version, bound and mode, and the count and the ids of a list of [`MAX_LIMIT`]. With so large an out
 /// buffer no opening is refused by 12.
@@ -236,11 +270,7 @@ pub fn open_session(
 /// # Errors
 /// Refusals 1 to 3, 6 to 10 and 12; then no byte has changed.
 pub fn answer_query(table: Table<'_>, cut: Cut, query: &[u8], out: &mut [u8]) -> Result<usize, Refusal> {
-    let answer = ffi::answer(table, cut, query, out);
-    match Refusal::from_number(answer.refusal) {
-        Some(refusal) => Err(refusal),
-        None => Ok(answer.length),
-    }
+    answered(ffi::answer(table, cut, query, out))
 }
 
 /// Takes a reply: sets the mark 1 on each own item that it shows the other end to lack, joins the ids that the opener lacks to the needed
@@ -294,6 +324,13 @@ pub fn fingerprint(table: Table<'_>, lower: Bound<'_>, upper: Bound<'_>) -> Resu
 /// ```
 pub fn sha256(message: &[u8]) -> [u8; 32] {
     ffi::sha256(message)
+}
+
+fn answered(answer: ffi::Answer) -> Result<usize, Refusal> {
+    match Refusal::from_number(answer.refusal) {
+        Some(refusal) => Err(refusal),
+        None => Ok(answer.length),
+    }
 }
 
 fn sent(answer: ffi::SessionAnswer) -> Result<Sent, Refusal> {

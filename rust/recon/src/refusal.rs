@@ -4,7 +4,7 @@ use core::fmt;
 macro_rules! refusals {
     ($($number:literal $kind:ident $text:literal $($more:literal)?,)+) => {
         /// Why a call is refused. The numbers are those of the specification and of `recon.h`, in the order in which a call checks them, save
-        /// that 13 is checked right after 2.
+        /// that 13 is checked right after 2, and 14 right after 3.
         ///
         /// A refused call has changed nothing. So after [`NeededFull`](Refusal::NeededFull) and [`NoRoom`](Refusal::NoRoom) the call can be
         /// made again with a larger buffer.
@@ -91,6 +91,7 @@ refusals! {
         "Nothing has changed: make the call again with a larger buffer.",
     13 WrongTree "the tree is not as long as one over these items is, or has no free place"
         "Nothing has changed. After an append to a full tree, build one over all the items: it has twice the places.",
+    14 ByteLimit "the byte limit is below 4,096",
 }
 
 impl fmt::Display for Refusal {

@@ -1,6 +1,6 @@
 //! Sessions between an opener and a responder that own their buffers.
 #![cfg(feature = "alloc")]
-use recon::{sha256, Cut, Opener, Refusal, Responder, Session, Table, MAX_ITEMS};
+use recon::{sha256, Cut, Opener, Refusal, Responder, Session, Table, MAX_ITEMS, MIN_BYTE_LIMIT};
 use std::collections::BTreeSet;
 
 type Id = [u8; 32];
@@ -86,15 +86,35 @@ impl Messages {
 }
 
 /// Runs a session and compares what it reports with the difference of the two sets: true at every time, and complete at the end.
-fn check(ours: &Records, theirs: &Records, [cut, their_cut]: [Cut; 2]) -> Messages {
+fn check(ours: &Records, theirs: &Records, cuts: [Cut; 2]) -> Messages {
+    check_within(ours, theirs, cuts, |_| [None; 2])
+}
+
+/// The same with the byte limits that the two ends have in each round. No message is longer.
+fn check_within(
+    ours: &Records,
+    theirs: &Records,
+    [cut, their_cut]: [Cut; 2],
+    limits: impl Fn(usize) -> [Option<usize>; 2],
+) -> Messages {
     let (ours_only, theirs_only) = difference(ours, theirs);
-    let mut opener = Opener::open(ours.table(), cut).unwrap();
+    let mut limit = limits(0)[0];
+    let mut opener = match limit {
+        None => Opener::open(ours.table(), cut).unwrap(),
+        Some(bytes) => Opener::open_within(ours.table(), cut, bytes).unwrap(),
+    };
     let mut responder = Responder::new(theirs.table(), their_cut);
     let mut messages = Messages::default();
     while let Some(query) = opener.query() {
+        assert!(limit.map_or(true, |bytes| query.len() <= bytes));
         messages.queries.push(query.to_vec());
+        let [next_limit, their_limit] = limits(messages.queries.len());
+        responder.set_byte_limit(their_limit);
         let reply = responder.answer(query).unwrap();
+        assert!(their_limit.map_or(true, |bytes| reply.len() <= bytes));
         messages.replies.push(reply.to_vec());
+        limit = next_limit;
+        opener.set_byte_limit(limit);
         opener.take(reply).unwrap();
         let (_, _, marked, needed) = said(&opener);
         assert!(marked.iter().all(|record| ours_only.binary_search(record).is_ok()));
@@ -132,6 +152,53 @@ fn whatever_differs_is_reported() {
                 check(&theirs, &few, [cut, CUTS[1]]);
             }
         }
+    }
+}
+
+/// Limits at either end or at both, and limits that change and are dropped from round to round.
+#[test]
+fn whatever_differs_is_reported_within_byte_limits() {
+    let ours = Records::new((0..3000).filter(|number| number % 7 != 5));
+    let theirs = Records::new((0..3000).filter(|number| number % 5 != 1));
+    for cut in CUTS {
+        let rounds = |limits: fn(usize) -> [Option<usize>; 2]| {
+            let messages = check_within(&ours, &theirs, [cut; 2], limits);
+            (
+                messages.queries.len(),
+                messages.longest_query(),
+                messages.longest_reply(),
+            )
+        };
+        let (without, query, reply) = rounds(|_| [None; 2]);
+        assert!(reply > MIN_BYTE_LIMIT);
+        assert!(rounds(|_| [Some(4096), None]).0 >= without);
+        assert!(rounds(|_| [None, Some(4096)]).0 > without);
+        assert!(rounds(|_| [Some(4096); 2]).0 > without);
+        rounds(|round| [None, Some(4096 + 100 * round)]);
+        rounds(|round| [Some(4096), None].map(|limit| limit.filter(|_| round % 2 == 0)));
+        assert_eq!(rounds(|_| [Some(usize::MAX); 2]), (without, query, reply));
+    }
+}
+
+/// A limit that is too small is refused where it is used, and changes nothing; another one can be set then.
+#[test]
+fn a_byte_limit_is_judged_by_the_calls() {
+    let (ours, theirs) = (Records::new(0..1000), Records::new(500..1500));
+    for bytes in [0, 1, MIN_BYTE_LIMIT - 1] {
+        let opened = Opener::open_within(ours.table(), CUTS[1], bytes);
+        assert_eq!(opened.err(), Some(Refusal::ByteLimit));
+        let mut opener = Opener::open_within(ours.table(), CUTS[1], MIN_BYTE_LIMIT).unwrap();
+        let mut responder = Responder::new(theirs.table(), CUTS[1]);
+        responder.set_byte_limit(Some(bytes));
+        assert_eq!(responder.answer(opener.query().unwrap()), Err(Refusal::ByteLimit));
+        responder.set_byte_limit(None);
+        let reply = responder.answer(opener.query().unwrap()).unwrap();
+        let before = said(&opener);
+        opener.set_byte_limit(Some(bytes));
+        assert_eq!(opener.take(reply), Err(Refusal::ByteLimit));
+        assert!(said(&opener) == before);
+        opener.set_byte_limit(None);
+        assert_eq!(opener.take(reply), Ok(()));
     }
 }
 
@@ -330,8 +397,13 @@ fn debug_output_is_short() {
     let records = Records::new(0..5000);
     let opener = Opener::open(records.table(), CUTS[1]).unwrap();
     let text = format!("{opener:?}");
-    assert!(text.starts_with("Opener { items: 5000, cut: Cut { parts: 16, limit: 64 }, session: Session {"));
+    let start = "Opener { items: 5000, cut: Cut { parts: 16, limit: 64 }, byte_limit: None, session: Session {";
+    assert!(text.starts_with(start));
     assert!(text.len() < 200);
-    let text = format!("{:?}", Responder::new(records.table(), CUTS[1]));
-    assert_eq!(text, "Responder { items: 5000, cut: Cut { parts: 16, limit: 64 }, .. }");
+    let mut responder = Responder::new(records.table(), CUTS[1]);
+    responder.set_byte_limit(Some(4096));
+    assert_eq!(
+        format!("{responder:?}"),
+        "Responder { items: 5000, cut: Cut { parts: 16, limit: 64 }, byte_limit: Some(4096), .. }"
+    );
 }

@@ -136,3 +136,19 @@ fn an_end_takes_memory_as_its_table_does() {
     let many = Records::new(100_000);
     assert_eq!(largest_asked(|| whole_round(many.table())), 100_000 * (8 + 32) / 8);
 }
+
+/// With a byte limit the buffers for messages have no more than that, also where they grow up to it.
+#[test]
+fn a_message_takes_no_more_memory_than_its_limit() {
+    let many = Records::new(100_000);
+    for (limit, most) in [(4096, 4096), (7 * ENOUGH, 7 * ENOUGH)] {
+        let mut responder = Responder::new(many.table(), Cut::default());
+        responder.set_byte_limit(Some(limit));
+        let asked = largest_asked(|| responder.answer(&[0x61, 0, 0, 2, 0]).map(<[u8]>::len));
+        assert_eq!(asked, most);
+    }
+    let some = Records::new(1000);
+    assert_eq!(largest_asked(|| Opener::open_within(some.table(), LISTS, 4096)), 4096);
+    let opened = with_largest(4096, || Opener::open_within(some.table(), LISTS, 4096));
+    assert!(opened.is_ok());
+}

@@ -1,6 +1,6 @@
 //! The two implementations behind one interface: the library, and the independent reference.
 use crate::raw;
-use recon::{Bound, Cut, RunLabel, Sent, Session, Table};
+use recon::{Bound, Cut, Refusal, RunLabel, Sent, Session, Table};
 
 #[derive(Clone, Copy, Debug, PartialEq, Eq)]
 pub enum Call {
@@ -20,12 +20,21 @@ impl Call {
         }
     }
 
-    /// Whether the specification lets the call refuse by this number.
+    /// The name of the call with a byte limit.
+    pub fn limited_name(self) -> &'static str {
+        match self {
+            Call::Open => "open within",
+            Call::Answer => "answer within",
+            Call::Take => "take within",
+        }
+    }
+
+    /// Whether the specification lets the call refuse by this number, 14 only with a byte limit.
     pub fn can_refuse_by(self, number: u8) -> bool {
         match self {
-            Call::Open => matches!(number, 1..=4 | 12),
-            Call::Answer => matches!(number, 1..=3 | 6..=10 | 12),
-            Call::Take => matches!(number, 1..=12),
+            Call::Open => matches!(number, 1..=4 | 12 | 14),
+            Call::Answer => matches!(number, 1..=3 | 6..=10 | 12 | 14),
+            Call::Take => matches!(number, 1..=12 | 14),
         }
     }
 }
@@ -62,6 +71,8 @@ impl TreeCall {
 pub struct Lent<'a> {
     pub table: Table<'a>,
     pub cut: Cut,
+    /// The byte limit; none for the calls without one.
+    pub bytes: Option<usize>,
     pub message: &'a [u8],
     pub session: Session,
     pub marks: &'a mut [u8],
@@ -140,17 +151,18 @@ impl Calls for Library {
     }
 
     fn run(&self, call: Call, lent: &mut Lent<'_>) -> Outcome {
-        let Lent {
-            table,
-            cut,
-            message,
-            session,
-            ..
-        } = *lent;
-        let result = match call {
-            Call::Open => recon::open_session(table, cut, lent.marks, lent.needed, lent.out),
-            Call::Answer => recon::answer_query(table, cut, message, lent.out).map(|length| Sent { length, session }),
-            Call::Take => recon::take_reply(table, cut, message, session, lent.marks, lent.needed, lent.out),
+        let session = lent.session;
+        let answered = |length| Sent { length, session };
+        let result = match (call, lent.bytes) {
+            (Call::Open, None) => recon::open_session(lent.table, lent.cut, lent.marks, lent.needed, lent.out),
+            (Call::Open, Some(bytes)) => {
+                recon::open_session_within(lent.table, lent.cut, bytes, lent.marks, lent.needed, lent.out)
+            }
+            (Call::Answer, None) => recon::answer_query(lent.table, lent.cut, lent.message, lent.out).map(answered),
+            (Call::Answer, Some(bytes)) => {
+                recon::answer_query_within(lent.table, lent.cut, bytes, lent.message, lent.out).map(answered)
+            }
+            (Call::Take, bytes) => take(lent, bytes),
         };
         result.map_err(|refusal| {
             // The safe crate gives the number alone. A refused call changed nothing, so the C call must refuse again.
@@ -209,6 +221,21 @@ impl Calls for Library {
     }
 }
 
+fn take(lent: &mut Lent<'_>, bytes: Option<usize>) -> Result<Sent, Refusal> {
+    let Lent {
+        table,
+        cut,
+        message,
+        session,
+        ..
+    } = *lent;
+    let (marks, needed, out) = (&mut *lent.marks, &mut *lent.needed, &mut *lent.out);
+    match bytes {
+        None => recon::take_reply(table, cut, message, session, marks, needed, out),
+        Some(bytes) => recon::take_reply_within(table, cut, bytes, message, session, marks, needed, out),
+    }
+}
+
 /// A refusal's number as the reference has it. The specification has none that is larger.
 fn small(number: u64) -> u8 {
     u8::try_from(number).expect("the number of a refusal")
@@ -237,6 +264,7 @@ impl Calls for Reference {
         let Lent {
             table: Table { times, ids },
             cut: Cut { parts: b, limit: t },
+            bytes,
             message,
             session,
             ..
@@ -247,10 +275,13 @@ impl Calls for Reference {
             done: session.done,
         };
         let result = match call {
-            Call::Open => reference::open(times, ids, b, t, lent.marks, lent.needed, lent.out),
-            Call::Answer => reference::answer(times, ids, b, t, message, lent.out)
+            Call::Open => reference::open_within(times, ids, b, t, bytes, lent.marks, lent.needed, lent.out),
+            Call::Answer => reference::answer_within(times, ids, b, t, bytes, message, lent.out)
                 .map(|length| reference::Sent { length, session: given }),
-            Call::Take => reference::take(times, ids, b, t, message, given, lent.marks, lent.needed, lent.out),
+            Call::Take => {
+                let (marks, needed, out) = (&mut *lent.marks, &mut *lent.needed, &mut *lent.out);
+                reference::take_within(times, ids, b, t, bytes, message, given, marks, needed, out)
+            }
         };
         let kept = if call == Call::Open { NO_SESSION } else { session };
         result.map(sent).map_err(|number| Refused { number, session: kept })

@@ -18,10 +18,18 @@ pub struct Counts {
     pub calls: u64,
     /// Those of them with every slice beside an inaccessible page.
     pub guarded: u64,
-    /// How often each call gave each number, 0 for no refusal.
-    pub numbers: [[u64; 13]; 3],
+    /// How often each call without a byte limit gave each number, 0 for no refusal.
+    pub numbers: [[u64; 15]; 3],
+    /// The same for those with a byte limit.
+    pub limited_numbers: [[u64; 15]; 3],
     /// The same for the calls on trees.
-    pub tree_numbers: [[u64; 14]; 3],
+    pub tree_numbers: [[u64; 15]; 3],
+    /// Messages that a byte limit cut short.
+    pub short: u64,
+    /// Those of them that have a part of a list.
+    pub short_lists: u64,
+    /// Sessions with such messages that came to their end.
+    pub short_sessions: u64,
     /// Runs of trees from builds and appends whose label is that of the items.
     pub summed: u64,
     /// Appends that left the tree that a build leaves.
@@ -50,14 +58,17 @@ impl Counts {
         self.excused += other.excused;
         self.summed += other.summed;
         self.rebuilt += other.rebuilt;
-        let sums = self.numbers.iter_mut().flatten();
-        let tree_sums = self.tree_numbers.iter_mut().flatten();
-        let counts = other
-            .numbers
-            .iter()
-            .flatten()
-            .chain(other.tree_numbers.iter().flatten());
-        sums.chain(tree_sums).zip(counts).for_each(|(sum, count)| *sum += count);
+        self.short += other.short;
+        self.short_lists += other.short_lists;
+        self.short_sessions += other.short_sessions;
+        for (sums, counts) in [
+            (&mut self.numbers, &other.numbers),
+            (&mut self.limited_numbers, &other.limited_numbers),
+            (&mut self.tree_numbers, &other.tree_numbers),
+        ] {
+            let pairs = sums.iter_mut().flatten().zip(counts.iter().flatten());
+            pairs.for_each(|(sum, count)| *sum += count);
+        }
     }
 }
 
@@ -136,21 +147,21 @@ impl<'a> Comparer<'a> {
         let names = format!("{} and {}", self.first.name(), self.second.name());
         compare_after(&first, &second, &names)
             .and_then(|()| check_lent(input, &first, unchanged))
-            .map_err(|text| format!("{}: {}", input.call.name(), text))?;
-        self.counts.numbers[input.call as usize][usize::from(first.number())] += 1;
+            .map_err(|text| format!("{}: {}", input.name(), text))?;
+        let numbers = match input.bytes {
+            None => &mut self.counts.numbers,
+            Some(_) => &mut self.counts.limited_numbers,
+        };
+        numbers[input.call as usize][usize::from(first.number())] += 1;
         Ok(first)
     }
 
-    /// What a call needs when there is room for all: out bytes, and ids of the needed buffer. Asked of the reference
-    /// alone; none if it refuses.
-    pub fn room(&self, input: &Input<'_>) -> Option<(usize, usize)> {
-        // A message of m bytes has at most m / 3 ranges, each of them at most 48 bytes and its payload; the parts and
-        // lists of all ranges together are at most as many as the items, each at most 60 bytes.
-        let out = vec![0; 1 + 60 * input.table.times.len() + 48 * (input.message.len() / 3 + 1)];
+    /// What a call leaves when there is room for all. Asked of the reference alone.
+    pub fn with_all_room(&self, input: &Input<'_>) -> After {
+        let out = vec![0; input.most_room()];
         let mut needed = input.needed.to_vec();
         needed.resize(needed.len() + input.message.len() / 32 * 32, 0);
-        let sent = input.with_needed(&needed).with_out(&out).run(&Reference).outcome.ok()?;
-        Some((sent.length, sent.session.needed))
+        input.with_needed(&needed).with_out(&out).run(&Reference)
     }
 
     /// The fingerprint call with both implementations.
@@ -267,6 +278,9 @@ fn check_sent(input: &Input<'_>, after: &After, sent: Sent) -> Check {
     };
     if sent.length > input.out.len() || listed > input.needed.len() {
         return Err(format!("{:?} is more than the buffers hold", sent));
+    }
+    if input.bytes.map_or(false, |bytes| sent.length > bytes) {
+        return Err(format!("{} bytes are more than the limit", sent.length));
     }
     let what = |buffer| move || format!("{} behind what was written", buffer);
     same_bytes(&input.out[sent.length..], &after.out[sent.length..], what("out bytes"))?;

@@ -1,7 +1,9 @@
 //! The reference with damage on purpose, for the self-check.
 use crate::calls::{Call, Calls, GivenBound, GivenItem, Lent, Outcome, Reference, Refused, RunOutcome, TreeCall};
 use crate::guard::{touch_beyond, Side};
+use crate::input::Input;
 use crate::tree::TreeInput;
+use crate::within_trials::{rewrite, Short};
 use recon::{Sent, Table};
 
 /// What an undamaged call did, and what was lent to it before.
@@ -14,6 +16,21 @@ pub struct Made<'a, 'b> {
 }
 
 impl Made<'_, '_> {
+    /// The message that the call writes without a byte limit.
+    pub fn whole(&self) -> Vec<u8> {
+        let Lent {
+            table,
+            cut,
+            message,
+            session,
+            ..
+        } = *self.lent;
+        let input = Input::new(self.call, table, cut).with_message(message);
+        let input = input.with_state(session, &self.marks, &self.needed);
+        let out = vec![0; input.most_room()];
+        input.with_out(&out).run(&Reference).message().to_vec()
+    }
+
     /// Puts all buffers back.
     fn undo(&mut self) {
         self.lent.marks.copy_from_slice(&self.marks);
@@ -39,8 +56,12 @@ impl Made<'_, '_> {
 
 #[derive(Clone, Copy)]
 pub enum Damage {
+    /// Changes what a call is lent before it is made.
+    Lent(fn(&mut Lent<'_>)),
     /// Spoils what a call did that was not refused.
     Sent(Call, fn(&mut Made<'_, '_>, &mut Sent)),
+    /// Changes a message that its byte limit cut short.
+    Short(fn(&mut Short<'_>)),
     /// Spoils what a refused call left.
     Refused(fn(&mut Made<'_, '_>, &mut Refused)),
     /// Tells a refusal by another number.
@@ -88,6 +109,9 @@ impl Calls for Damaged {
 
     fn run(&self, call: Call, lent: &mut Lent<'_>) -> Outcome {
         let (marks, needed, out) = (lent.marks.to_vec(), lent.needed.to_vec(), lent.out.to_vec());
+        if let Damage::Lent(change) = self.0 {
+            change(lent);
+        }
         let mut outcome = Reference.run(call, lent);
         let mut made = Made {
             call,
@@ -98,6 +122,7 @@ impl Calls for Damaged {
         };
         match (self.0, &mut outcome) {
             (Damage::Sent(of, spoil), Ok(sent)) if of == call => spoil(&mut made, sent),
+            (Damage::Short(change), Ok(sent)) => rewrite(&mut made, sent, change),
             (Damage::Refused(spoil), Err(refused)) => spoil(&mut made, refused),
             (Damage::Renumber(from, to), Err(refused)) if refused.number == from => refused.number = to,
             (Damage::Any(spoil), outcome) => spoil(&mut made, outcome),

@@ -31,6 +31,8 @@ pub struct Taken<'a> {
     pub reply: &'a [u8],
     /// The query sent last before it.
     pub last_sent: &'a [u8],
+    /// No byte limit cut short the query or the reply.
+    pub whole: bool,
 }
 
 /// The differences of two tables, and what the takes so far have compared.
@@ -44,6 +46,7 @@ pub struct Demand<'a> {
     /// An id of ours stands under another time in theirs: then reports may be wrong, and only rounds are owed.
     two_times: bool,
     rounds: usize,
+    /// The takes in a row up to now, none of whose messages was cut short.
     row: usize,
     compared: BTreeSet<(Place, Place)>,
 }
@@ -90,7 +93,8 @@ impl<'a> Demand<'a> {
     pub fn after_take(&mut self, taken: &Taken<'_>, reports: Reports<'_>) -> Check<usize> {
         self.note_compared(taken.query);
         self.note_compared(taken.reply);
-        self.row = if taken.query == taken.last_sent {
+        // In a row the query that a take answers is the one that the take before it sent.
+        self.row = if taken.query == taken.last_sent && taken.whole {
             self.row + 1
         } else {
             0
@@ -181,7 +185,7 @@ impl<'a> Demand<'a> {
             let inside = |item: &Item| lower <= (false, *item) && (false, *item) < upper;
             table.items().into_iter().filter(inside).collect::<Vec<Item>>()
         };
-        let fingerprint = |table| true_fingerprint(table, &bound(lower), &bound(upper));
+        let fingerprint = |table: &OwnedTable| true_fingerprint(table.lent(), &bound(lower), &bound(upper));
         within(self.ours) != within(self.theirs) && fingerprint(self.ours) == fingerprint(self.theirs)
     }
 }

@@ -6,6 +6,7 @@ use crate::generate::OwnedTable;
 use crate::input::{After, Input, NEW_SESSION};
 use crate::kinds::Case;
 use recon::{Cut, Sent, Session};
+use std::collections::BTreeMap;
 
 /// A table with its cut.
 #[derive(Clone, Copy)]
@@ -44,71 +45,111 @@ impl Ends {
     }
 }
 
+/// A message that was sent, and whether no byte limit cut it short.
+#[derive(Clone)]
+struct Message {
+    bytes: Vec<u8>,
+    whole: bool,
+}
+
 /// The state of both ends in a session: what the opener holds, and the queries sent so far with their answers.
 pub struct Exchange<'a> {
     pub opener: End<'a>,
     pub responder: End<'a>,
+    /// The byte limits of the next take and of the next answer.
+    pub limits: [Option<usize>; 2],
     pub session: Session,
     pub marks: Vec<u8>,
     /// The needed list, without room behind it.
     pub list: Vec<u8>,
-    pub queries: Vec<Vec<u8>>,
-    answers: Vec<Option<Vec<u8>>>,
+    queries: Vec<Message>,
+    /// By query and byte limit.
+    answers: BTreeMap<(usize, Option<usize>), Message>,
     demand: Demand<'a>,
+    /// A message that was taken or sent was cut short.
+    short: bool,
 }
 
 impl<'a> Exchange<'a> {
     /// Opens a session, with any bytes in the buffers before.
     pub fn open(case: &mut Case<'_, '_>, ends: &'a Ends) -> Check<Exchange<'a>> {
+        Exchange::open_within(case, ends, [None; 2])
+    }
+
+    /// The same with byte limits, the first of them that of the opening.
+    pub fn open_within(case: &mut Case<'_, '_>, ends: &'a Ends, limits: [Option<usize>; 2]) -> Check<Exchange<'a>> {
         let (opener, responder) = (ends.opener(), ends.responder());
         let marks = case.rng.bytes(opener.table.count());
         let whole_ids = 32 * case.rng.below(3);
         let needed = case.rng.bytes(whole_ids);
-        let input = opener.input(Call::Open).with_state(NEW_SESSION, &marks, &needed);
-        let (after, sent) = with_room(case, &input)?;
+        let input = opener.input(Call::Open).within(limits[0]);
+        let (after, sent, whole) = with_room(case, &input.with_state(NEW_SESSION, &marks, &needed))?;
         if after.marks.iter().any(|&mark| mark != 0) || sent.session != NEW_SESSION {
             return Err("the opening leaves marks or another session than a new one".to_string());
         }
+        let bytes = after.message().to_vec();
         Ok(Exchange {
             opener,
             responder,
+            limits,
             session: sent.session,
-            queries: vec![after.message().to_vec()],
-            answers: vec![None],
+            queries: vec![Message { bytes, whole }],
+            answers: BTreeMap::new(),
             marks: after.marks,
             list: Vec::new(),
             demand: Demand::new(opener.table, responder.table, opener.cut),
+            short: !whole,
         })
+    }
+
+    /// How many queries were sent.
+    pub fn sent(&self) -> usize {
+        self.queries.len()
+    }
+
+    pub fn query(&self, number: usize) -> &[u8] {
+        &self.queries[number].bytes
     }
 
     /// The responder's answer to a query sent.
     pub fn answer(&mut self, case: &mut Case<'_, '_>, query: usize) -> Check<Vec<u8>> {
-        if let Some(answer) = &self.answers[query] {
+        Ok(self.reply(case, query)?.bytes)
+    }
+
+    fn reply(&mut self, case: &mut Case<'_, '_>, query: usize) -> Check<Message> {
+        let limit = self.limits[1];
+        if let Some(answer) = self.answers.get(&(query, limit)) {
             return Ok(answer.clone());
         }
-        let input = self.responder.input(Call::Answer).with_message(&self.queries[query]);
-        let answer = with_room(case, &input)?.0.message().to_vec();
-        self.answers[query] = Some(answer.clone());
+        let input = self.responder.input(Call::Answer).within(limit);
+        let (after, _, whole) = with_room(case, &input.with_message(self.query(query)))?;
+        let bytes = after.message().to_vec();
+        let answer = Message { bytes, whole };
+        self.answers.insert((query, limit), answer.clone());
         Ok(answer)
     }
 
     /// A take of a reply in this state; its out buffer is empty, and the needed buffer has the list alone.
     pub fn take_input<'b>(&'b self, reply: &'b [u8]) -> Input<'b> {
-        let input = self.opener.input(Call::Take).with_message(reply);
-        input.with_state(self.session, &self.marks, &self.list)
+        let input = self.opener.input(Call::Take).within(self.limits[0]);
+        input
+            .with_message(reply)
+            .with_state(self.session, &self.marks, &self.list)
     }
 
     /// Takes the answer to a query sent, with room of any size that is enough, and checks what is owed then.
     pub fn take(&mut self, case: &mut Case<'_, '_>, query: usize) -> Check {
-        let reply = self.answer(case, query)?;
-        let (after, Sent { session, .. }) = with_room(case, &self.take_input(&reply))?;
+        let reply = self.reply(case, query)?;
+        let (after, Sent { session, .. }, whole) = with_room(case, &self.take_input(&reply.bytes))?;
         self.session = session;
         self.list = after.needed[..32 * session.needed].to_vec();
         self.marks.copy_from_slice(&after.marks);
+        self.short |= !reply.whole || !whole;
         let taken = Taken {
-            query: &self.queries[query],
-            reply: &reply,
-            last_sent: &self.queries[self.last_query()],
+            query: &self.queries[query].bytes,
+            reply: &reply.bytes,
+            last_sent: &self.queries[self.last_query()].bytes,
+            whole: self.queries[query].whole && reply.whole,
         };
         let reports = Reports {
             marks: &self.marks,
@@ -123,9 +164,10 @@ impl<'a> Exchange<'a> {
         if session.done {
             counts.sessions += 1;
             counts.full_rows += u64::from(self.demand.row_is_full());
+            counts.short_sessions += u64::from(self.short);
         } else {
-            self.queries.push(after.message().to_vec());
-            self.answers.push(None);
+            let bytes = after.message().to_vec();
+            self.queries.push(Message { bytes, whole });
         }
         Ok(())
     }
@@ -143,8 +185,8 @@ impl<'a> Exchange<'a> {
     }
 }
 
-/// Makes a lawful call with room that is exact or more, any bytes in it.
-fn with_room(case: &mut Case<'_, '_>, input: &Input<'_>) -> Check<(After, Sent)> {
+/// Makes a lawful call with room that is exact or more, any bytes in it. The flag says whether its message is whole.
+pub fn with_room(case: &mut Case<'_, '_>, input: &Input<'_>) -> Check<(After, Sent, bool)> {
     let (length, count) = case.room(input)?;
     let out_room = length + case.rng.pick(&[0, 0, 1, 50]);
     let out = case.rng.bytes(out_room);
@@ -154,8 +196,9 @@ fn with_room(case: &mut Case<'_, '_>, input: &Input<'_>) -> Check<(After, Sent)>
         needed.extend(case.rng.bytes(room.saturating_sub(input.needed.len())));
     }
     let after = case.comparer.call(&input.with_needed(&needed).with_out(&out))?;
+    let whole = case.check_short(input, after.message())?;
     match after.outcome {
-        Ok(sent) => Ok((after, sent)),
+        Ok(sent) => Ok((after, sent, whole)),
         Err(refused) => Err(format!("a lawful call is refused by {}", refused.number)),
     }
 }

@@ -12,6 +12,7 @@ pub struct Draft {
     pub call: Call,
     pub table: Rc<OwnedTable>,
     pub cut: Cut,
+    pub bytes: Option<usize>,
     pub message: Vec<u8>,
     pub session: Session,
     pub marks: Vec<u8>,
@@ -34,6 +35,7 @@ impl Draft {
             call: input.call,
             table: Rc::new(OwnedTable { times, ids }),
             cut: input.cut,
+            bytes: input.bytes,
             message: input.message.to_vec(),
             session: input.session,
             marks: input.marks.to_vec(),
@@ -44,6 +46,7 @@ impl Draft {
 
     pub fn input(&self) -> Input<'_> {
         Input::new(self.call, self.table.lent(), self.cut)
+            .within(self.bytes)
             .with_message(&self.message)
             .with_state(self.session, &self.marks, &self.needed)
             .with_out(&self.out)
@@ -73,6 +76,14 @@ pub struct Fault {
 impl Fault {
     fn applies_to(&self, call: Call) -> bool {
         call.can_refuse_by(self.number) && (call == Call::Take || !self.take_only)
+    }
+
+    /// Its place among the checks: 14 comes right after 3.
+    pub fn place(&self) -> (u8, bool) {
+        match self.number {
+            14 => (3, true),
+            number => (number, false),
+        }
     }
 
     pub fn spoil(&self, draft: &mut Draft) {
@@ -120,6 +131,7 @@ pub fn faults_of(call: Call) -> Vec<Fault> {
         size_faults(),
         order_faults(),
         cut_faults(),
+        byte_limit_faults(),
         buffer_faults(),
         session_faults(),
         message_faults(),
@@ -231,6 +243,15 @@ fn cut_faults() -> Vec<Fault> {
         edit(3, "no limit", |d| d.cut.limit = 0),
         edit(3, "limit 4097", |d| d.cut.limit = 4_097),
         edit(3, "the largest limit of all", |d| d.cut.limit = usize::MAX),
+    ]
+}
+
+/// 14. A call without a limit is made with one.
+fn byte_limit_faults() -> Vec<Fault> {
+    vec![
+        edit(14, "byte limit 0", |d| d.bytes = Some(0)),
+        edit(14, "byte limit 1", |d| d.bytes = Some(1)),
+        edit(14, "byte limit 4095", |d| d.bytes = Some(4_095)),
     ]
 }
 

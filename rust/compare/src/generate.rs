@@ -283,13 +283,51 @@ pub fn two_cuts(rng: &mut Rng, small: usize) -> [Cut; 2] {
     }
 }
 
+/// No byte limit, or a lawful one; the least more often.
+pub fn lawful_limit(rng: &mut Rng) -> Option<usize> {
+    let any = rng.between(4_096, 10_000);
+    rng.pick(&[None, Some(4_096), Some(4_096), Some(any), Some(usize::MAX)])
+}
+
 /// A message about a table: rising bounds spelled in all ways, true and false fingerprints, lists of own and other ids
 /// in any order and with repeats. It is lawful, save that a bound sometimes equals the one before.
 pub fn message(rng: &mut Rng, table: &OwnedTable, others: &[Id]) -> Vec<u8> {
     let items = table.items();
-    let mut bounds: Vec<(u64, Vec<u8>)> = (0..rng.below(7)).map(|_| bound(rng, &items)).collect();
+    let bounds = (0..rng.below(7)).map(|_| bound(rng, &items)).collect();
+    let is_lawful = rng.chance(90);
+    let uppers = uppers(rng, bounds, is_lawful);
+    spelled(rng, table, uppers, [1; 4], |rng| list(rng, &items, others))
+}
+
+/// A lawful message about a table with a bound near many of its items; its lists are short, with a long one at times.
+pub fn long_message(rng: &mut Rng, table: &OwnedTable) -> Vec<u8> {
+    let items = table.items();
+    let near = rng.pick(&[10, 40, 90]);
+    let mut bounds = Vec::new();
+    for number in 0..items.len() {
+        if rng.chance(near) {
+            bounds.push(bound(rng, &items[number..=number]));
+        }
+    }
+    let uppers = uppers(rng, bounds, true);
+    // Of true fingerprints only a few, as each takes a reading of the table.
+    let weights = rng.pick(&[
+        [10, 1, 10, 10],
+        [1, 0, 0, 10],
+        [1, 0, 10, 0],
+        [30, 3, 5, 5],
+        [0, 1, 10, 10],
+    ]);
+    spelled(rng, table, uppers, weights, |rng| {
+        let count = if rng.chance(2) { 300 } else { rng.below(3) };
+        (0..count).map(|_| rng.id()).collect()
+    })
+}
+
+/// Rising upper bounds, at times with infinity as the last. A lawful message has no bound that equals the one before.
+fn uppers(rng: &mut Rng, mut bounds: Vec<(u64, Vec<u8>)>, is_lawful: bool) -> Vec<Bound> {
     bounds.sort_by_key(|(time, prefix)| (*time, id_from(prefix)));
-    if rng.chance(90) {
+    if is_lawful {
         bounds.dedup_by_key(|(time, prefix)| (*time, id_from(prefix)));
         bounds.retain(|(time, prefix)| (*time, id_from(prefix)) > (0, [0; 32]));
     }
@@ -300,17 +338,33 @@ pub fn message(rng: &mut Rng, table: &OwnedTable, others: &[Id]) -> Vec<u8> {
     if rng.chance(40) {
         uppers.push(Bound::Infinity);
     }
+    uppers
+}
+
+/// The message with these bounds. The weights are those of skips, true fingerprints, false ones and lists.
+fn spelled(
+    rng: &mut Rng,
+    table: &OwnedTable,
+    uppers: Vec<Bound>,
+    weights: [usize; 4],
+    mut list: impl FnMut(&mut Rng) -> Vec<Id>,
+) -> Vec<u8> {
+    let [skips, truths, lies, lists] = weights;
     let mut lower = Bound::At {
         time: 0,
         prefix: Vec::new(),
     };
     let mut ranges = Vec::new();
     for upper in uppers {
-        let payload = match rng.below(4) {
-            0 => Payload::Skip,
-            1 => Payload::Fingerprint(true_fingerprint(table, &lower, &upper)),
-            2 => Payload::Fingerprint(first_16(&rng.id())),
-            _ => Payload::Ids(list(rng, &items, others)),
+        let drawn = rng.below(skips + truths + lies + lists);
+        let payload = if drawn < skips {
+            Payload::Skip
+        } else if drawn < skips + truths {
+            Payload::Fingerprint(true_fingerprint(table.lent(), &lower, &upper))
+        } else if drawn < skips + truths + lies {
+            Payload::Fingerprint(first_16(&rng.id()))
+        } else {
+            Payload::Ids(list(rng))
         };
         lower = upper.clone();
         ranges.push(Range { upper, payload });
@@ -356,7 +410,7 @@ pub fn first_16(bytes: &[u8]) -> [u8; 16] {
 }
 
 /// The fingerprint of a table's items between two bounds.
-pub fn true_fingerprint(table: &OwnedTable, lower: &Bound, upper: &Bound) -> [u8; 16] {
+pub fn true_fingerprint(table: Table<'_>, lower: &Bound, upper: &Bound) -> [u8; 16] {
     let given = |bound: &Bound| match bound {
         Bound::Infinity => reference::GivenBound {
             infinite: true,
@@ -371,7 +425,7 @@ pub fn true_fingerprint(table: &OwnedTable, lower: &Bound, upper: &Bound) -> [u8
             prefix: id_from(prefix),
         },
     };
-    reference::fingerprint(&table.times, &table.ids, &given(lower), &given(upper)).expect("the table is lawful")
+    reference::fingerprint(table.times, table.ids, &given(lower), &given(upper)).expect("the table is lawful")
 }
 
 /// Bytes from text: two hex digits each, `FF*8` for eight of them.

@@ -17,6 +17,7 @@ pub struct Input<'a> {
     pub call: Call,
     pub table: Table<'a>,
     pub cut: Cut,
+    pub bytes: Option<usize>,
     pub message: &'a [u8],
     pub session: Session,
     pub marks: &'a [u8],
@@ -45,18 +46,24 @@ impl After {
 }
 
 impl<'a> Input<'a> {
-    /// A call about a table with a new session, without message and buffers.
+    /// A call about a table with a new session, without byte limit, message and buffers.
     pub fn new(call: Call, table: Table<'a>, cut: Cut) -> Input<'a> {
         Input {
             call,
             table,
             cut,
+            bytes: None,
             message: &[],
             session: NEW_SESSION,
             marks: &[],
             needed: &[],
             out: &[],
         }
+    }
+
+    /// The call with this byte limit, or none.
+    pub fn within(self, bytes: Option<usize>) -> Input<'a> {
+        Input { bytes, ..self }
     }
 
     pub fn with_message(self, message: &'a [u8]) -> Input<'a> {
@@ -80,10 +87,26 @@ impl<'a> Input<'a> {
         Input { out, ..self }
     }
 
+    /// Out bytes that are enough for whatever a lawful call writes. A message of m bytes has at most m / 3 ranges, each of
+    /// them at most 48 bytes and its payload; the parts and lists of all ranges together are at most as many as the
+    /// items, each at most 60 bytes.
+    pub fn most_room(&self) -> usize {
+        1 + 60 * self.table.times.len() + 48 * (self.message.len() / 3 + 1)
+    }
+
+    /// The name of the call, with its limit or without.
+    pub fn name(&self) -> &'static str {
+        match self.bytes {
+            None => self.call.name(),
+            Some(_) => self.call.limited_name(),
+        }
+    }
+
     fn lent(&self, marks: &'a mut [u8], needed: &'a mut [u8], out: &'a mut [u8]) -> Lent<'a> {
         Lent {
             table: self.table,
             cut: self.cut,
+            bytes: self.bytes,
             message: self.message,
             session: self.session,
             marks,

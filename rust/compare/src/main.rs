@@ -22,11 +22,13 @@ mod raw;
 mod rng;
 mod run;
 mod self_check;
+mod short;
 mod show;
 mod tree;
 mod tree_faults;
 mod tree_trials;
 mod trials;
+mod within_trials;
 
 use kinds::{kind_named, Label};
 use std::process::exit;

@@ -53,6 +53,19 @@ extern "C" {
         reply: *const u8, reply_len: usize, session: CSession, marks: *mut u8, marks_len: usize,
         needed: *mut u8, needed_len: usize, out: *mut u8, out_len: usize,
     ) -> CSessionAnswer;
+    fn recon_open_within(
+        times: *const u64, times_len: usize, ids: *const u8, ids_len: usize, parts: usize, limit: usize, bytes: usize,
+        marks: *mut u8, marks_len: usize, needed: *const u8, needed_len: usize, out: *mut u8, out_len: usize,
+    ) -> CSessionAnswer;
+    fn recon_answer_within(
+        times: *const u64, times_len: usize, ids: *const u8, ids_len: usize, parts: usize, limit: usize, bytes: usize,
+        query: *const u8, query_len: usize, out: *mut u8, out_len: usize,
+    ) -> CAnswer;
+    fn recon_take_within(
+        times: *const u64, times_len: usize, ids: *const u8, ids_len: usize, parts: usize, limit: usize, bytes: usize,
+        reply: *const u8, reply_len: usize, session: CSession, marks: *mut u8, marks_len: usize,
+        needed: *mut u8, needed_len: usize, out: *mut u8, out_len: usize,
+    ) -> CSessionAnswer;
     fn recon_fingerprint(
         times: *const u64, times_len: usize, ids: *const u8, ids_len: usize,
         lower_infinite: bool, lower_time: u64, lower_prefix: *const u8, lower_prefix_len: usize,
@@ -79,10 +92,13 @@ impl Told {
 pub fn run(call: Call, lent: &mut Lent<'_>) -> Told {
     let Session { marked, needed, done } = lent.session;
     let session = CSession { marked, needed, done };
-    match call {
-        Call::Open => open(lent),
-        Call::Answer => Told::of(answer(lent), session),
-        Call::Take => take(lent, session),
+    match (call, lent.bytes) {
+        (Call::Open, None) => open(lent),
+        (Call::Open, Some(bytes)) => open_within(lent, bytes),
+        (Call::Answer, None) => Told::of(answer(lent), session),
+        (Call::Answer, Some(bytes)) => Told::of(answer_within(lent, bytes), session),
+        (Call::Take, None) => take(lent, session),
+        (Call::Take, Some(bytes)) => take_within(lent, bytes, session),
     }
 }
 
@@ -123,6 +139,47 @@ fn take(lent: &mut Lent<'_>, session: CSession) -> Told {
     let answer = unsafe {
         recon_take(
             times.as_ptr(), times.len(), ids.as_ptr(), ids.len(), cut.parts, cut.limit,
+            lent.message.as_ptr(), lent.message.len(), session, lent.marks.as_mut_ptr(), lent.marks.len(),
+            lent.needed.as_mut_ptr(), lent.needed.len(), lent.out.as_mut_ptr(), lent.out.len(),
+        )
+    };
+    Told::of(answer.refusal, answer.session)
+}
+
+#[rustfmt::skip]
+fn open_within(lent: &mut Lent<'_>, bytes: usize) -> Told {
+    let (Table { times, ids }, cut) = (lent.table, lent.cut);
+    // SAFETY: see above.
+    let answer = unsafe {
+        recon_open_within(
+            times.as_ptr(), times.len(), ids.as_ptr(), ids.len(), cut.parts, cut.limit, bytes,
+            lent.marks.as_mut_ptr(), lent.marks.len(), lent.needed.as_ptr(), lent.needed.len(),
+            lent.out.as_mut_ptr(), lent.out.len(),
+        )
+    };
+    Told::of(answer.refusal, answer.session)
+}
+
+#[rustfmt::skip]
+fn answer_within(lent: &mut Lent<'_>, bytes: usize) -> u64 {
+    let (Table { times, ids }, cut) = (lent.table, lent.cut);
+    // SAFETY: see above.
+    let answer = unsafe {
+        recon_answer_within(
+            times.as_ptr(), times.len(), ids.as_ptr(), ids.len(), cut.parts, cut.limit, bytes,
+            lent.message.as_ptr(), lent.message.len(), lent.out.as_mut_ptr(), lent.out.len(),
+        )
+    };
+    answer.refusal
+}
+
+#[rustfmt::skip]
+fn take_within(lent: &mut Lent<'_>, bytes: usize, session: CSession) -> Told {
+    let (Table { times, ids }, cut) = (lent.table, lent.cut);
+    // SAFETY: see above.
+    let answer = unsafe {
+        recon_take_within(
+            times.as_ptr(), times.len(), ids.as_ptr(), ids.len(), cut.parts, cut.limit, bytes,
             lent.message.as_ptr(), lent.message.len(), session, lent.marks.as_mut_ptr(), lent.marks.len(),
             lent.needed.as_mut_ptr(), lent.needed.len(), lent.out.as_mut_ptr(), lent.out.len(),
         )

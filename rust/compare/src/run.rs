@@ -99,7 +99,7 @@ impl<'a> Numbers<'a> {
             .collect();
         let (name, accepted) = (self.name, self.counts[0]);
         println!(
-            "{:<12}not refused: {}; refused by {}",
+            "{:<14}not refused: {}; refused by {}",
             name,
             accepted,
             counts.join(", ")
@@ -123,13 +123,17 @@ impl<'a> Numbers<'a> {
 fn numbers(totals: &Counts) -> Vec<Numbers<'_>> {
     let calls = Call::ALL.iter().map(|&call| {
         let counts = &totals.numbers[call as usize];
-        Numbers::new(call.name(), counts, |number| call.can_refuse_by(number))
+        Numbers::new(call.name(), counts, |number| number != 14 && call.can_refuse_by(number))
+    });
+    let limited_calls = Call::ALL.iter().map(|&call| {
+        let counts = &totals.limited_numbers[call as usize];
+        Numbers::new(call.limited_name(), counts, |number| call.can_refuse_by(number))
     });
     let tree_calls = TreeCall::ALL.iter().map(|&call| {
         let counts = &totals.tree_numbers[call as usize];
         Numbers::new(call.name(), counts, |number| call.can_refuse_by(number))
     });
-    calls.chain(tree_calls).collect()
+    calls.chain(limited_calls).chain(tree_calls).collect()
 }
 
 /// How often each call gave each number, and what sessions and trees came to.
@@ -139,6 +143,10 @@ fn print_totals(totals: &Counts) {
         "{} sessions done by {} takes, {} of them late or repeated; {} ended with the last reply that L allows; \
          {} differences unreported, all in colliding ranges",
         totals.sessions, totals.takes, totals.late, totals.full_rows, totals.excused
+    );
+    println!(
+        "{} messages cut short by a byte limit, {} of them inside a list; {} sessions with such messages done",
+        totals.short, totals.short_lists, totals.short_sessions
     );
     println!(
         "{} runs of trees with the label summed item by item; {} appends with the tree built afresh",
@@ -159,6 +167,9 @@ fn all_came_up(totals: &Counts) -> bool {
         totals.guarded,
         totals.summed,
         totals.rebuilt,
+        totals.short,
+        totals.short_lists,
+        totals.short_sessions,
     ];
     if shown.contains(&0) {
         println!("FAILED: something never came up that the sessions and trees are meant to show");

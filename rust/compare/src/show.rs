@@ -32,8 +32,11 @@ fn table(table: Table<'_>) -> String {
 }
 
 pub fn input(input: &Input<'_>) -> String {
-    let mut text = format!("{}\n{}", input.call.name(), table(input.table));
+    let mut text = format!("{}\n{}", input.name(), table(input.table));
     text += &format!("  parts {}, limit {}\n", input.cut.parts, input.cut.limit);
+    if let Some(bytes) = input.bytes {
+        text += &format!("  byte limit {}\n", bytes);
+    }
     if input.call != Call::Open {
         text += &format!("  message: {}\n", bytes(input.message));
     }

@@ -3,6 +3,7 @@ use crate::calls::{Call, Outcome};
 use crate::damage::{Damage, Made};
 use crate::guard::Side;
 use crate::tree_trials;
+use crate::within_trials;
 use recon::{Cut, Sent, Table, MAX_ITEMS};
 
 /// A damage, the kind of cases that has to find it, and words of what that kind has to say.
@@ -46,8 +47,8 @@ pub fn flip(bytes: &mut [u8], at: usize) {
 
 /// Damages of one side, that comparing has to find.
 pub fn one_sided() -> Vec<Trial> {
-    let renumbered = (1..=12).map(|number| {
-        let other = if number == 12 { 11 } else { number + 1 };
+    let renumbered = (1..=12).chain([14]).map(|number| {
+        let other = if number < 12 { number + 1 } else { 11 };
         let name = format!("refusal {} is told as {}", number, other);
         trial("refusals", "answer Err", name, Damage::Renumber(number, other))
     });
@@ -60,6 +61,7 @@ pub fn one_sided() -> Vec<Trial> {
         wrong_room(),
         wrong_hashes(),
         tree_trials::one_sided(),
+        within_trials::one_sided(),
     ];
     lists.into_iter().flatten().chain(renumbered).collect()
 }
@@ -217,7 +219,7 @@ fn wrong_versions() -> Vec<Trial> {
     ]
 }
 
-fn is_refused_by(outcome: &Outcome, number: u8) -> bool {
+pub fn is_refused_by(outcome: &Outcome, number: u8) -> bool {
     matches!(outcome, Err(refused) if refused.number == number)
 }
 
@@ -318,6 +320,7 @@ pub fn both_sided() -> Vec<Trial> {
     let both = "both say";
     let mut trials = wrong_reports();
     trials.extend(tree_trials::both_sided());
+    trials.extend(within_trials::both_sided());
     trials.extend([
         trial("examples", "differ at 0", "open writes another version", open(|made, _| flip(made.lent.out, 0))),
         trial("examples", both, "a bad bound is refused by 10", Damage::Renumber(9, 10)),
@@ -353,7 +356,7 @@ fn wrong_reports() -> Vec<Trial> {
     ]
 }
 
-fn say_done(made: &mut Made<'_, '_>, sent: &mut Sent) {
+pub fn say_done(made: &mut Made<'_, '_>, sent: &mut Sent) {
     made.lent.out.copy_from_slice(&made.out);
     sent.length = 0;
     sent.session.done = true;

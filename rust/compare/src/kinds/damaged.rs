@@ -3,7 +3,7 @@ use super::Case;
 use crate::calls::Call;
 use crate::compare::Check;
 use crate::exchange::{Ends, Exchange};
-use crate::generate::{message, two_cuts, whole_ids, Id, TwoTables, RELATIONS, SHAPES};
+use crate::generate::{lawful_limit, message, two_cuts, whole_ids, Id, TwoTables, RELATIONS, SHAPES};
 use std::collections::BTreeSet;
 
 type Damage = fn(&mut Case<'_, '_>, &Scene<'_>) -> Check;
@@ -48,7 +48,7 @@ fn scene<'a>(case: &mut Case<'_, '_>, ends: &'a Ends) -> Check<Scene<'a>> {
         let last = exchange.last_query();
         let reply = exchange.answer(case, last)?;
         let (length, _) = case.room(&exchange.take_input(&reply))?;
-        messages.extend([exchange.queries[last].clone(), reply]);
+        messages.extend([exchange.query(last).to_vec(), reply]);
         if last == takes || length == 0 {
             return Ok(Scene { exchange, messages });
         }
@@ -66,10 +66,12 @@ fn both_ways(case: &mut Case<'_, '_>, scene: &Scene<'_>, bytes: &[u8]) -> Check<
     let more = if is_short { case.rng.below(3) } else { bytes.len() / 32 };
     let out = case.rng.bytes(room);
     let needed = [&exchange.list[..], &case.rng.bytes(32 * more)].concat();
-    let take = exchange.take_input(bytes).with_needed(&needed).with_out(&out);
-    case.comparer.call(&take)?;
-    let answer = exchange.responder.input(Call::Answer).with_message(bytes);
-    Ok(case.comparer.call(&answer.with_out(&out))?.number())
+    let limits = [lawful_limit(&mut case.rng), lawful_limit(&mut case.rng)];
+    let take = exchange.take_input(bytes).within(limits[0]);
+    case.comparer.call(&take.with_needed(&needed).with_out(&out))?;
+    let answer = exchange.responder.input(Call::Answer).within(limits[1]);
+    let after = case.comparer.call(&answer.with_message(bytes).with_out(&out))?;
+    Ok(after.number())
 }
 
 /// At most 300 rising places of a message, the start and the end among them.

@@ -10,7 +10,7 @@ use recon::{Cut, Session};
 
 type Example = fn(&mut Case<'_, '_>) -> Check;
 
-const EXAMPLES: [(&str, Example); 16] = [
+const EXAMPLES: [(&str, Example); 17] = [
     ("E1, varints", varints),
     ("E3, the empty table", empty_table),
     ("E4, different times", |case| opening(case, [5, 5, 7], "08 00")),
@@ -27,6 +27,7 @@ const EXAMPLES: [(&str, Example); 16] = [
     ("an id under two times", two_times),
     ("skips in answers", skips),
     ("replies that say little", short_replies),
+    ("128 ids and byte limits", byte_limits),
 ];
 
 /// Messages and the number that reading them gives, 0 for none: examples of the specification, or what they are about.
@@ -378,4 +379,31 @@ fn short_replies(case: &mut Case<'_, '_>) -> Check {
     let other = taken(case, &two, "61 07 00 01 07*16")?;
     written(&other, "61 07 00 02 01 01 00*31")?;
     session(&other, 0, 0, false)
+}
+
+/// The list of 128 ids takes 4,102 bytes. With a limit below that 127 are kept, and the last item has a fingerprint.
+fn byte_limits(case: &mut Case<'_, '_>) -> Check {
+    let items: Vec<Item> = (0..128).map(|number| (5, id_from(&[1, number]))).collect();
+    let own = OwnedTable::of(&items);
+    let whole = [&from_text("61 00 00 02 81 00")[..], &own.ids].concat();
+    let start = from_text("61 06 02 01 7F 02 7F");
+    let last = from_text("00 00 01 1c734a0cf18826cc4f0ba647995da3d5");
+    let short = [&start[..], &own.ids[..32 * 127], &last].concat();
+    let (out, marks, message) = (case.rng.bytes(5_000), vec![0; 128], from_text("61 00 00 01 AA*16"));
+    for (limit, number, expected) in [
+        (usize::MAX, 0, &whole[..]),
+        (4_103, 0, &whole),
+        (4_102, 0, &whole),
+        (4_101, 0, &short),
+        (4_096, 0, &short),
+        (4_095, 14, &[]),
+        (0, 14, &[]),
+    ] {
+        for call in Call::ALL {
+            let input = end(&own, 2, 128).input(call).within(Some(limit)).with_message(&message);
+            let after = case.expect(&input.with_state(NEW_SESSION, &marks, &[]).with_out(&out), number)?;
+            same(after.message(), expected, "the message and the expected one")?;
+        }
+    }
+    Ok(())
 }

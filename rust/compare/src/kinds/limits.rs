@@ -1,4 +1,4 @@
-//! Tables of 1,048,576 items and one more, and long lists.
+//! Tables of 1,048,576 items and one more, long lists, and parts of them.
 use super::{expect_number, Case};
 use crate::calls::{Call, GivenBound, GivenItem};
 use crate::compare::Check;
@@ -10,8 +10,9 @@ use recon::{Cut, Table, MAX_ITEMS};
 
 type Limit = fn(&mut Case<'_, '_>) -> Check;
 
-const LIMITS: [Limit; 8] = [
+const LIMITS: [Limit; 9] = [
     openings,
+    byte_limits,
     refusals,
     fingerprints,
     trees,
@@ -54,6 +55,21 @@ fn openings(case: &mut Case<'_, '_>) -> Check {
         let opener = End { table: &largest, cut };
         let input = opener.input(Call::Open).with_out(&out);
         case.expect(&input.with_state(NEW_SESSION, &marks, &[]), 0)?;
+    }
+    Ok(())
+}
+
+/// Parts of one list of all ids.
+fn byte_limits(case: &mut Case<'_, '_>) -> Check {
+    let largest = table(case, MAX_ITEMS);
+    let responder = End {
+        table: &largest,
+        cut: MIDDLE_CUT,
+    };
+    for limit in [4_096, 1_000_000] {
+        let out = case.rng.bytes(limit);
+        let input = responder.input(Call::Answer).within(Some(limit));
+        case.expect(&input.with_message(&[0x61, 0, 0, 2, 0]).with_out(&out), 0)?;
     }
     Ok(())
 }

@@ -11,11 +11,13 @@ mod sessions;
 mod tables;
 mod trees;
 mod versions;
+mod within;
 
 use crate::compare::{Check, Comparer};
 use crate::guard;
 use crate::input::{After, Input};
 use crate::rng::Rng;
+use crate::short::{self, Kept};
 use crate::tree::{TreeAfter, TreeInput};
 use std::panic::{catch_unwind, AssertUnwindSafe};
 
@@ -44,8 +46,28 @@ impl Case<'_, '_> {
 
     /// What a lawful call needs: out bytes, and ids of the needed buffer.
     pub fn room(&self, input: &Input<'_>) -> Check<(usize, usize)> {
-        let room = self.comparer.room(input);
-        room.ok_or_else(|| format!("{}: the reference refuses a lawful call", input.call.name()))
+        match self.comparer.with_all_room(input).outcome {
+            Ok(sent) => Ok((sent.length, sent.session.needed)),
+            Err(_) => Err(format!("{}: the reference refuses a lawful call", input.name())),
+        }
+    }
+
+    /// The message of a lawful call as it is without a byte limit.
+    pub fn whole(&self, input: &Input<'_>) -> Vec<u8> {
+        self.comparer.with_all_room(&input.within(None)).message().to_vec()
+    }
+
+    /// Whether a message is whole; where its limit cut it short, it has to be as the specification says.
+    pub fn check_short(&mut self, input: &Input<'_>, message: &[u8]) -> Check<bool> {
+        let limit = match input.bytes {
+            None => return Ok(true),
+            Some(limit) => limit,
+        };
+        let kept = short::check(input.table, limit, &self.whole(input), message)
+            .map_err(|text| format!("{}: {}", input.name(), text))?;
+        self.comparer.counts.short += u64::from(kept != Kept::Whole);
+        self.comparer.counts.short_lists += u64::from(kept == Kept::PartOfList);
+        Ok(kept == Kept::Whole)
     }
 }
 
@@ -73,7 +95,7 @@ macro_rules! kind {
     };
 }
 
-pub static KINDS: [Kind; 12] = [
+pub static KINDS: [Kind; 13] = [
     kind!(examples),
     kind!(refusals),
     kind!(versions),
@@ -81,6 +103,7 @@ pub static KINDS: [Kind; 12] = [
     kind!(tables),
     kind!(sessions),
     kind!(room),
+    kind!(within),
     kind!(fingerprints),
     kind!(limits),
     kind!(lists),

@@ -4,7 +4,7 @@ use crate::calls::Call;
 use crate::compare::Check;
 use crate::exchange::End;
 use crate::faults::{faults_of, Draft, Fault};
-use crate::generate::{first_16, id_from, OwnedTable};
+use crate::generate::{first_16, id_from, lawful_limit, OwnedTable};
 use crate::input::NEW_SESSION;
 use crate::rng::Rng;
 use recon::{Cut, Session};
@@ -66,8 +66,10 @@ fn expected(first: &Fault, second: &Fault, is_same: bool) -> Option<u8> {
         Some(first.number).filter(|&number| number != 7)
     } else if first.number == second.number {
         None
+    } else if first.place() < second.place() {
+        Some(first.number)
     } else {
-        Some(first.number.min(second.number))
+        Some(second.number)
     }
 }
 
@@ -84,7 +86,8 @@ fn lawful(case: &mut Case<'_, '_>, call: Call) -> Check<Draft> {
     };
     let (session, marks, mut needed) = state(rng, call, count);
     let message = open_message(rng, &table);
-    let input = end.input(call).with_state(session, &marks, &needed);
+    let bytes = lawful_limit(rng);
+    let input = end.input(call).within(bytes).with_state(session, &marks, &needed);
     let input = if call == Call::Open {
         input
     } else {

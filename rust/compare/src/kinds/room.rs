@@ -1,9 +1,9 @@
-//! Room for the message and for the needed list: each size around what is needed.
+//! Room for the message and for the needed list: each size around what is needed, with and without a byte limit.
 use super::Case;
 use crate::calls::Call;
 use crate::compare::Check;
 use crate::exchange::{Ends, Exchange};
-use crate::generate::{two_cuts, TwoTables, RELATIONS, SHAPES};
+use crate::generate::{lawful_limit, two_cuts, TwoTables, RELATIONS, SHAPES};
 use crate::input::{Input, NEW_SESSION};
 use std::ops::RangeInclusive;
 
@@ -22,15 +22,16 @@ pub fn run(case: &mut Case<'_, '_>) -> Check {
     let cuts = two_cuts(&mut case.rng, 75);
     let ends = Ends { tables, cuts };
     let marks = case.rng.bytes(ends.opener().table.count());
-    let opening = ends.opener().input(Call::Open);
+    let opening = ends.opener().input(Call::Open).within(lawful_limit(&mut case.rng));
     each_out_size(case, &opening.with_state(NEW_SESSION, &marks, &[]))?;
     let mut exchange = Exchange::open(case, &ends)?;
     while !exchange.session.done {
         let last = exchange.last_query();
-        let answering = ends.responder().input(Call::Answer);
-        each_out_size(case, &answering.with_message(&exchange.queries[last]))?;
+        let answering = ends.responder().input(Call::Answer).within(lawful_limit(&mut case.rng));
+        each_out_size(case, &answering.with_message(exchange.query(last)))?;
         let reply = exchange.answer(case, last)?;
-        each_needed_size(case, &exchange.take_input(&reply))?;
+        let limit = lawful_limit(&mut case.rng);
+        each_needed_size(case, &exchange.take_input(&reply).within(limit))?;
         exchange.take(case, last)?;
     }
     Ok(())

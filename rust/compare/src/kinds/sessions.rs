@@ -64,7 +64,7 @@ fn step(case: &mut Case<'_, '_>, exchange: &mut Exchange<'_>) -> Check {
 
 /// The answer to any query sent.
 fn any_answer(case: &mut Case<'_, '_>, exchange: &mut Exchange<'_>) -> Check<Vec<u8>> {
-    let query = case.rng.below(exchange.queries.len());
+    let query = case.rng.below(exchange.sent());
     exchange.answer(case, query)
 }
 

@@ -1,10 +1,11 @@
-//! Every first byte of a message, and no byte: what stands behind it, the room, and faults of kinds 1 to 3 before it.
+//! Every first byte of a message, and no byte: what stands behind it, the room, and faults of kinds 1 to 3 and 14 before
+//! it, with and without a byte limit.
 use super::Case;
 use crate::calls::Call;
 use crate::compare::{same_bytes, Check};
 use crate::exchange::End;
 use crate::faults::{faults_of, Draft, Fault};
-use crate::generate::{from_text, id_from, OwnedTable};
+use crate::generate::{from_text, id_from, lawful_limit, OwnedTable};
 use crate::input::NEW_SESSION;
 use recon::Cut;
 
@@ -38,17 +39,21 @@ fn number(call: Call, message: &[u8], room: usize) -> Option<u8> {
     }
 }
 
-/// With no room, the room of one byte, and more; without a fault, and with each of kinds 1 to 3.
+/// With no room, the room of one byte, and more; without a fault, and with each of kinds 1 to 3 and 14.
 fn each_room(case: &mut Case<'_, '_>, call: Call, message: &[u8]) -> Check {
     let table = OwnedTable::of(&[(5, id_from(&[1])), (5, id_from(&[2])), (7, id_from(&[3]))]);
     let cut = Cut { parts: 2, limit: 2 };
     for room in [0, 1, 60] {
         let out = case.rng.bytes(room);
         let end = End { table: &table, cut };
-        let lawful = end.input(call).with_message(message).with_out(&out);
+        let bytes = lawful_limit(&mut case.rng);
+        let lawful = end.input(call).within(bytes).with_message(message).with_out(&out);
         let draft = Draft::of(&lawful.with_state(NEW_SESSION, &[0, 0, 0], &[]));
         judged(case, &draft, number(call, message, room))?;
-        for fault in faults_of(call).iter().filter(|fault| fault.number <= 3) {
+        for fault in faults_of(call)
+            .iter()
+            .filter(|fault| matches!(fault.number, 1..=3 | 14))
+        {
             with_fault(case, &draft, fault)?;
         }
     }

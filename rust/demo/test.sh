@@ -110,6 +110,32 @@ same 'rounds, with 2 parts and limit 2' <(echo 6) <(rounds --parts 2 --limit 2)
 same 'rounds, with joined values' <(echo 6) <(rounds --parts=2 --limit=2)
 same 'rounds, of options given twice' <(echo 6) <(rounds --parts 16 --limit 64 --parts 2 --limit=2)
 
+# Byte limits report the same, in more rounds where messages are cut short. Those of the samples are short enough.
+for bytes in 4096 18446744073709551615; do
+    cp "$samples/expected.txt" want
+    check "byte limit $bytes" 1 --bytes $bytes ours.txt theirs.txt
+    same "rounds, with byte limit $bytes" <(rounds) <(rounds --bytes=$bytes)
+done
+# Records whose ids are hashes of their numbers, without each so many: COUNT.
+numbered() { python3 -c 'import hashlib, sys
+for i in range(3000):
+    if i % int(sys.argv[1]):
+        print(i, hashlib.sha256(b"%d" % i).hexdigest())' "$1"; }
+numbered 7 >sevens.txt
+numbered 5 >fives.txt
+"$program" sevens.txt fives.txt >expected || true
+# What --stats tells, in one line: ARGUMENT..
+told() { { "$program" sevens.txt fives.txt --format tsv --stats "$@" 2>&1 >/dev/null || true; } | cut -f 2 | paste -sd ' '; }
+read -r without _ < <(told)
+for bytes in 4096 10000; do
+    cp expected want
+    check "byte limit $bytes, messages cut short" 1 sevens.txt fives.txt --bytes $bytes
+    read -r rounds queries query_bytes replies reply_bytes < <(told --bytes $bytes)
+    must "more rounds, with byte limit $bytes" [ "$rounds" -gt "$without" ]
+    must "queries within $bytes" [ "$query_bytes" -le $((queries * bytes)) ]
+    must "replies within $bytes" [ "$reply_bytes" -le $((replies * bytes)) ]
+done
+
 # Equal files, in whatever order and spelling.
 grep -v '^#' ours.txt | sort -r | tr a-f A-F | sed 's/$/\r/' >reordered.txt
 printf '\n# the end, without a line feed' >>reordered.txt
@@ -294,12 +320,16 @@ wrong '--parts must be 2 to 64, not 1' good.txt good.txt --parts 1
 wrong '--parts must be 2 to 64, not 65' good.txt good.txt --parts 65 --limit 65
 wrong '--limit must be 16 (the parts) to 4096, not 15' good.txt good.txt --limit 15
 wrong '--limit must be 16 (the parts) to 4096, not 4097' good.txt good.txt --limit 4097
+wrong '--bytes needs a number' good.txt good.txt --bytes
+wrong '--bytes needs a number, not "4k"' good.txt good.txt --bytes=4k
+wrong '--bytes must be at least 4096, not 4095' good.txt good.txt --bytes 4095
+wrong '--bytes must be at least 4096, not 0' good.txt good.txt --bytes 0
 
 # Help and version.
 "$program" --help >help
 same 'help' <(echo 'usage: reconcile [OPTION..] OURS THEIRS') <(head -n 1 help)
 same 'help, in 80 columns' /dev/null <(grep -E '.{81}' help)
-for word in -q --quiet --stats --format --parts --limit -h --help -V --version ' -- ' text tsv json ' - ' 'exit status is 0'; do
+for word in -q --quiet --stats --format --parts --limit --bytes -h --help -V --version ' -- ' text tsv json ' - ' 'exit status is 0'; do
     must "help on $word" grep -qFe "$word" help
 done
 for option in -h --help '--help --parts'; do

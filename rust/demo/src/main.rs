@@ -10,9 +10,9 @@ mod source;
 
 use exchange::{exchange, Exchanged};
 use failure::{Failure, Status};
-use options::{Command, Request, HELP, VERSION};
+use options::{Command, Options, Request, HELP, VERSION};
 use progress::{stderr_is_terminal, Progress};
-use recon::{Cut, Opener, Refusal, Responder};
+use recon::{Opener, Refusal, Responder};
 use records::Records;
 use report::{Difference, Report};
 use source::Source;
@@ -44,7 +44,7 @@ fn reconcile(request: &Request) -> Result<Status, Failure> {
     progress.show("reading records");
     let (ours, theirs) = read_both(&request.ours, &request.theirs)?;
     progress.show("opening");
-    let (opener, exchanged) = session(&ours, &theirs, options.cut, &mut progress).map_err(Failure::Refused)?;
+    let (opener, exchanged) = session(&ours, &theirs, options, &mut progress).map_err(Failure::Refused)?;
     progress.clear();
     let difference = Difference {
         ours_only: opener.ours_only().map(|(time, id)| (time, &id[..])).collect(),
@@ -75,11 +75,16 @@ fn read(source: &Source) -> Result<Records, Failure> {
 fn session<'a>(
     ours: &'a Records,
     theirs: &'a Records,
-    cut: Cut,
+    options: &Options,
     progress: &mut Progress<impl Write>,
 ) -> Result<(Opener<'a>, Exchanged), Refusal> {
+    let (table, cut) = (ours.table(), options.cut);
     let mut responder = Responder::new(theirs.table(), cut);
-    let mut opener = Opener::open(ours.table(), cut)?;
+    responder.set_byte_limit(options.bytes);
+    let mut opener = match options.bytes {
+        None => Opener::open(table, cut)?,
+        Some(bytes) => Opener::open_within(table, cut, bytes)?,
+    };
     let exchanged = exchange(&mut opener, &mut responder, |exchanged, opener| {
         progress.show(&describe(exchanged, opener));
     })?;

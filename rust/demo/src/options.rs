@@ -1,7 +1,7 @@
 //! The command line.
 use crate::report::Format;
 use crate::source::Source;
-use recon::{Cut, MAX_LIMIT, MAX_PARTS, MIN_PARTS};
+use recon::{Cut, MAX_LIMIT, MAX_PARTS, MIN_BYTE_LIMIT, MIN_PARTS};
 use std::ffi::OsString;
 
 pub const USAGE: &str = "usage: reconcile [OPTION..] OURS THEIRS
@@ -23,6 +23,8 @@ input.
                   (default 16)
   --limit T       how many records a range may have to be listed instead,
                   B to 4096 (default 64)
+  --bytes N       how many bytes a message of either end may have, at least 4096
+                  (default: as many as it needs); it may take more rounds
   -h, --help      print this text
   -V, --version   print the version
   --              what follows is not an option
@@ -76,6 +78,8 @@ pub struct Request {
 #[derive(Clone, Copy, Debug, Default, PartialEq, Eq)]
 pub struct Options {
     pub cut: Cut,
+    /// The byte limit of both ends.
+    pub bytes: Option<usize>,
     pub format: Format,
     pub stats: bool,
     pub quiet: bool,
@@ -97,7 +101,7 @@ pub fn parse(mut arguments: impl Iterator<Item = OsString>) -> Result<Command, S
             sources.push(Source::named(argument));
         }
     }
-    check(options.cut)?;
+    options.check()?;
     let [ours, theirs] =
         <[Source; 2]>::try_from(sources).map_err(|sources| format!("two files are needed, not {}", sources.len()))?;
     if ours == Source::StandardInput && theirs == Source::StandardInput {
@@ -123,9 +127,30 @@ impl Options {
             "--format" => self.format = given.format()?,
             "--parts" => self.cut.parts = given.number()?,
             "--limit" => self.cut.limit = given.number()?,
+            "--bytes" => self.bytes = Some(given.number()?),
             name => return Err(format!("unknown option {name:?}")),
         }
         Ok(None)
+    }
+
+    /// The limits are those of the library's calls. They are checked here too, before a file is read, so that an option
+    /// out of its limits is told like other wrong options.
+    fn check(&self) -> Result<(), String> {
+        let Cut { parts, limit } = self.cut;
+        if !(MIN_PARTS..=MAX_PARTS).contains(&parts) {
+            return Err(format!("--parts must be {MIN_PARTS} to {MAX_PARTS}, not {parts}"));
+        }
+        if !(parts..=MAX_LIMIT).contains(&limit) {
+            return Err(format!(
+                "--limit must be {parts} (the parts) to {MAX_LIMIT}, not {limit}"
+            ));
+        }
+        match self.bytes {
+            Some(bytes) if bytes < MIN_BYTE_LIMIT => {
+                Err(format!("--bytes must be at least {MIN_BYTE_LIMIT}, not {bytes}"))
+            }
+            _ => Ok(()),
+        }
     }
 }
 
@@ -185,21 +210,6 @@ impl<'a, I: Iterator<Item = OsString>> Given<'a, I> {
     }
 }
 
-/// The limits are those of the library's calls. They are checked here too, before a file is read, so that an option out
-/// of its limits is told like other wrong options.
-fn check(cut: Cut) -> Result<(), String> {
-    let Cut { parts, limit } = cut;
-    if !(MIN_PARTS..=MAX_PARTS).contains(&parts) {
-        return Err(format!("--parts must be {MIN_PARTS} to {MAX_PARTS}, not {parts}"));
-    }
-    if !(parts..=MAX_LIMIT).contains(&limit) {
-        return Err(format!(
-            "--limit must be {parts} (the parts) to {MAX_LIMIT}, not {limit}"
-        ));
-    }
-    Ok(())
-}
-
 #[cfg(test)]
 mod tests {
     use super::*;
@@ -233,13 +243,14 @@ mod tests {
         assert_eq!(cut("a b --limit 64 --parts 64"), Cut { parts: 64, limit: 64 });
         assert_eq!(options("a b"), Options::default());
         let all = Options {
+            bytes: Some(4096),
             format: Format::Json,
             stats: true,
             quiet: true,
             ..Options::default()
         };
-        assert_eq!(options("--quiet --stats a --format json b"), all);
-        assert_eq!(options("a b -q --format=json --stats"), all);
+        assert_eq!(options("--quiet --stats a --format json --bytes 4096 b"), all);
+        assert_eq!(options("a b -q --format=json --bytes=4096 --stats"), all);
     }
 
     #[test]
@@ -258,6 +269,7 @@ mod tests {
             Cut { parts: 8, limit: 10 }
         );
         assert_eq!(options("--format json a b --format tsv").format, Format::Tsv);
+        assert_eq!(options("--bytes 1 a b --bytes 5000").bytes, Some(5000));
         assert_eq!(options("-q -q --quiet a b"), options("-q a b"));
     }
 
@@ -329,6 +341,10 @@ mod tests {
             ("a b --parts 65 --limit 65", "--parts must be 2 to 64, not 65"),
             ("a b --limit 15", "--limit must be 16 (the parts) to 4096, not 15"),
             ("a b --limit 4097", "--limit must be 16 (the parts) to 4096, not 4097"),
+            ("a b --bytes", "--bytes needs a number"),
+            ("a b --bytes x", "--bytes needs a number, not \"x\""),
+            ("a b --bytes 0", "--bytes must be at least 4096, not 0"),
+            ("a b --bytes 4095", "--bytes must be at least 4096, not 4095"),
             ("a b --format", "--format needs text, tsv or json"),
             ("a b --format xml", "--format needs text, tsv or json, not \"xml\""),
             ("a b --format=JSON", "--format needs text, tsv or json, not \"JSON\""),

@@ -87,7 +87,7 @@ pub const CASES: [Case; 7] = [
 ];
 
 /// Two tables of n items, in each of which the other end lacks so many.
-fn different(n: usize, count: usize) -> Counts {
+pub fn different(n: usize, count: usize) -> Counts {
     Counts {
         both: n - count,
         ours: count,

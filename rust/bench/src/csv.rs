@@ -11,7 +11,10 @@ const HEAD: &str = "limit,case,n,call,implementation,round,calls,bytes_in,bytes_
 /// For each cut, case, n, call and implementation a line with the total (round `all`), then one for each round.
 pub fn lines(effort: &Effort, all: &[(Cut, Vec<Measured>)]) -> String {
     let mut text = HEAD.to_string();
-    for (limit, measured) in all.iter().flat_map(|(cut, all)| all.iter().map(move |one| (cut.limit, one))) {
+    for (limit, measured) in all
+        .iter()
+        .flat_map(|(cut, all)| all.iter().map(move |one| (cut.limit, one)))
+    {
         for (call, ways) in [
             (Call::Limit, [Way::Reading, Way::OpenSsl]),
             (Call::Open, [Way::Library, Way::Reference]),
@@ -19,7 +22,14 @@ pub fn lines(effort: &Effort, all: &[(Cut, Vec<Measured>)]) -> String {
             (Call::Take, [Way::Library, Way::Reference]),
         ] {
             for way in ways {
-                let start = format!("{},{},{},{},{}", limit, measured.case, measured.n, call.name(), way.name());
+                let start = format!(
+                    "{},{},{},{},{}",
+                    limit,
+                    measured.case,
+                    measured.n,
+                    call.name(),
+                    way.name()
+                );
                 match measured.times(call, way) {
                     // An opening without fingerprints has no limits.
                     None if call == Call::Limit => (),

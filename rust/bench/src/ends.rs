@@ -6,6 +6,20 @@ use recon::{Cut, Sent, Session};
 /// The cuts, each at both ends.
 pub const CUTS: [Cut; 2] = [Cut { parts: 16, limit: 64 }, Cut { parts: 16, limit: 4096 }];
 
+/// What both ends keep to: the cut and, if there is one, the byte limit.
+#[derive(Clone, Copy)]
+pub struct Terms {
+    pub cut: Cut,
+    pub bytes: Option<usize>,
+}
+
+impl From<Cut> for Terms {
+    /// Without a byte limit.
+    fn from(cut: Cut) -> Terms {
+        Terms { cut, bytes: None }
+    }
+}
+
 /// What does the work of a call, or the two limits that stand beside it.
 #[derive(Clone, Copy, Debug, PartialEq, Eq)]
 pub enum Way {
@@ -77,58 +91,66 @@ fn common(sent: reference::Sent) -> Sent {
     }
 }
 
-pub fn open(way: Way, table: &Table, cut: Cut, buffers: &mut Buffers) -> Sent {
+pub fn open(way: Way, table: &Table, terms: Terms, buffers: &mut Buffers) -> Sent {
     let Buffers { marks, needed, out } = buffers;
-    match way {
-        Way::Library => done(way, recon::open_session(lent(table), cut, marks, needed, out)),
-        _ => common(done(
-            way,
-            reference::open(&table.times, &table.ids, cut.parts, cut.limit, marks, needed, out),
-        )),
+    let (own, Terms { cut, bytes }) = (lent(table), terms);
+    match (way, bytes) {
+        (Way::Library, None) => done(way, recon::open_session(own, cut, marks, needed, out)),
+        (Way::Library, Some(bytes)) => done(way, recon::open_session_within(own, cut, bytes, marks, needed, out)),
+        _ => {
+            let (times, ids, Cut { parts, limit }) = (own.times, own.ids, cut);
+            let sent = reference::open_within(times, ids, parts, limit, bytes, marks, needed, out);
+            common(done(way, sent))
+        }
     }
 }
 
 /// The length of the reply.
-pub fn answer(way: Way, table: &Table, cut: Cut, query: &[u8], out: &mut [u8]) -> usize {
-    match way {
-        Way::Library => done(way, recon::answer_query(lent(table), cut, query, out)),
-        _ => done(
-            way,
-            reference::answer(&table.times, &table.ids, cut.parts, cut.limit, query, out),
-        ),
+pub fn answer(way: Way, table: &Table, terms: Terms, query: &[u8], out: &mut [u8]) -> usize {
+    let (own, Terms { cut, bytes }) = (lent(table), terms);
+    match (way, bytes) {
+        (Way::Library, None) => done(way, recon::answer_query(own, cut, query, out)),
+        (Way::Library, Some(bytes)) => done(way, recon::answer_query_within(own, cut, bytes, query, out)),
+        _ => {
+            let (times, ids, Cut { parts, limit }) = (own.times, own.ids, cut);
+            done(
+                way,
+                reference::answer_within(times, ids, parts, limit, bytes, query, out),
+            )
+        }
     }
 }
 
-pub fn take(way: Way, table: &Table, cut: Cut, reply: &[u8], session: Session, buffers: &mut Buffers) -> Sent {
-    done(way, try_take(way, table, cut, reply, session, buffers))
+pub fn take(way: Way, table: &Table, terms: Terms, reply: &[u8], session: Session, buffers: &mut Buffers) -> Sent {
+    done(way, try_take(way, table, terms, reply, session, buffers))
 }
 
 /// As `take`, with the number of a refusal.
 pub fn try_take(
     way: Way,
     table: &Table,
-    cut: Cut,
+    terms: Terms,
     reply: &[u8],
     session: Session,
     buffers: &mut Buffers,
 ) -> Result<Sent, u64> {
     let Buffers { marks, needed, out } = buffers;
-    if way == Way::Library {
-        return recon::take_reply(lent(table), cut, reply, session, marks, needed, out)
-            .map_err(|refusal| refusal.number());
-    }
-    let Table { times, ids } = table;
-    let Session {
-        marked,
-        needed: listed,
-        done: over,
-    } = session;
-    let session = reference::Session {
-        marked,
-        needed: listed,
-        done: over,
+    let (own, Terms { cut, bytes }) = (lent(table), terms);
+    let taken = match (way, bytes) {
+        (Way::Library, None) => recon::take_reply(own, cut, reply, session, marks, needed, out),
+        (Way::Library, Some(bytes)) => recon::take_reply_within(own, cut, bytes, reply, session, marks, needed, out),
+        _ => {
+            let (times, ids, Cut { parts, limit }) = (own.times, own.ids, cut);
+            let session = plain(session);
+            let taken = reference::take_within(times, ids, parts, limit, bytes, reply, session, marks, needed, out);
+            return taken.map(common).map_err(u64::from);
+        }
     };
-    reference::take(times, ids, cut.parts, cut.limit, reply, session, marks, needed, out)
-        .map(common)
-        .map_err(u64::from)
+    taken.map_err(|refusal| refusal.number())
+}
+
+/// The session as the reference has it.
+fn plain(session: Session) -> reference::Session {
+    let Session { marked, needed, done } = session;
+    reference::Session { marked, needed, done }
 }

@@ -98,13 +98,13 @@ impl List {
         };
         let mut buffers = Buffers::new(&tables);
         let record = match self.shape {
-            Session => Record::made(&tables, cut, &mut buffers),
-            OneRange => Record::in_one_range(&tables, cut, &mut buffers),
+            Session => Record::made(&tables, cut.into(), &mut buffers),
+            OneRange => Record::in_one_range(&tables, cut.into(), &mut buffers),
         };
         if self.room != Ample {
             buffers = Buffers::with_room(&tables, self.counts.theirs);
         }
-        let mut run = Run::new(clock, effort, &tables, cut, &record, buffers);
+        let mut run = Run::new(clock, effort, &tables, cut.into(), &record, buffers);
         let ways = [Way::Library, Way::Reference];
         if self.room == Short {
             return refused(&mut run, &ways);
@@ -149,13 +149,13 @@ impl List {
 /// The take of the only reply, with room for one needed id less than there are.
 fn refused(run: &mut Run, ways: &[Way]) -> [f64; 2] {
     run.buffers.needed.truncate(run.tables.needed.len() - 32);
-    let (round, cut) = (&run.record.rounds[0], run.cut);
+    let (round, terms) = (&run.record.rounds[0], run.terms);
     let times = alternate(run.effort, ways, |way| {
         run.buffers.marks.fill(0);
         let (table, buffers) = (&run.tables.opener, &mut run.buffers);
         let (seconds, result) = run
             .clock
-            .time(|| try_take(way, table, cut, &round.reply, round.before.session, buffers));
+            .time(|| try_take(way, table, terms, &round.reply, round.before.session, buffers));
         assert_eq!(result.err(), Some(11), "the results differ: {}, refusal", way.name());
         seconds
     });

@@ -1,5 +1,6 @@
 //! Times of whole sessions by the proved library and by the plain reference, on equal tables in one run:
-//! `bench [--quick] [--lists] [--csv FILE]`, with `--lists` only the takes of replies with many ids. The tables of times go to standard output.
+//! `bench [--quick] [--lists | --within] [--csv FILE]`, with `--lists` only the takes of replies with many ids, with `--within` only sessions with
+//! byte limits, which the others leave out. The tables of times go to standard output.
 
 mod cases;
 mod clock;
@@ -13,6 +14,7 @@ mod measure;
 mod record;
 mod report;
 mod results;
+mod within;
 
 use cases::CASES;
 use clock::Clock;
@@ -27,6 +29,8 @@ struct Options {
     csv: Option<String>,
     /// Only the takes of replies with many ids.
     lists: bool,
+    /// Only sessions with byte limits.
+    within: bool,
 }
 
 fn options(mut arguments: impl Iterator<Item = String>) -> Option<Options> {
@@ -34,12 +38,14 @@ fn options(mut arguments: impl Iterator<Item = String>) -> Option<Options> {
         effort: FULL,
         csv: None,
         lists: false,
+        within: false,
     };
     while let Some(argument) = arguments.next() {
         match argument.as_str() {
             "--quick" => options.effort = QUICK,
             "--csv" => options.csv = Some(arguments.next()?),
             "--lists" => options.lists = true,
+            "--within" => options.within = true,
             _ => return None,
         }
     }
@@ -68,11 +74,16 @@ fn measure_all(clock: &Clock, effort: &Effort, cut: Cut) -> Vec<Measured> {
 }
 
 fn main() {
-    let Options { effort, csv, lists } = options(env::args().skip(1)).unwrap_or_else(|| {
-        eprintln!("bench [--quick] [--lists] [--csv FILE]");
+    let options = options(env::args().skip(1)).unwrap_or_else(|| {
+        eprintln!("bench [--quick] [--lists | --within] [--csv FILE]");
         process::exit(2)
     });
+    let Options { effort, csv, lists, .. } = options;
     let clock = Clock::new();
+    if options.within {
+        print!("{}", within::measure_all(&clock));
+        return;
+    }
     let listed = lists::measure_all(&clock, &effort);
     if lists {
         print!("{listed}");

@@ -2,7 +2,7 @@
 
 use crate::cases::{Case, Tables};
 use crate::clock::Clock;
-use crate::ends::{answer, open, take, Buffers, Way, UNSET};
+use crate::ends::{answer, open, take, Buffers, Terms, Way, UNSET};
 use crate::limits::{fingerprints, hash, read_once, MESSAGE};
 use crate::record::{Record, Round};
 use crate::results::{Call, Measured, Series, Time};
@@ -77,24 +77,29 @@ pub fn measure(clock: &Clock, effort: &Effort, case: &Case, cut: Cut, n: usize, 
             .filter(|&way| effort.allows(smaller, n, call, way))
             .collect::<Vec<_>>()
     };
-    let mut measured = Measured {
-        case: case.name,
-        n,
-        queries: Vec::new(),
-        replies: Vec::new(),
-        series: Vec::new(),
-    };
+    let measured = Measured::none(case.name, n);
     let calls = [Call::Open, Call::Answer, Call::Take];
     // The reference drives the session.
     if !calls.iter().all(|&call| ways(call).contains(&Way::Reference)) {
         return measured;
     }
-    let tables = case.tables(n);
-    let mut buffers = Buffers::new(&tables);
-    let record = Record::made(&tables, cut, &mut buffers);
+    measure_session(clock, effort, cut.into(), &case.tables(n), ways, measured)
+}
+
+/// Measures the calls of a session over these tables.
+pub fn measure_session(
+    clock: &Clock,
+    effort: &Effort,
+    terms: Terms,
+    tables: &Tables,
+    ways: impl Fn(Call) -> Vec<Way>,
+    mut measured: Measured,
+) -> Measured {
+    let mut buffers = Buffers::new(tables);
+    let record = Record::made(tables, terms, &mut buffers);
     measured.queries = record.rounds.iter().map(|round| round.query.len()).collect();
     measured.replies = record.rounds.iter().map(|round| round.reply.len()).collect();
-    let mut run = Run::new(clock, effort, &tables, cut, &record, buffers);
+    let mut run = Run::new(clock, effort, tables, terms, &record, buffers);
     measured.series.extend(run.opening(&ways(Call::Open)));
     for call in [Call::Answer, Call::Take] {
         measured.series.extend(run.rounds(call, &ways(call)));
@@ -106,7 +111,7 @@ pub struct Run<'a> {
     pub clock: &'a Clock,
     pub effort: &'a Effort,
     pub tables: &'a Tables,
-    pub cut: Cut,
+    pub terms: Terms,
     pub record: &'a Record,
     pub buffers: Buffers,
 }
@@ -116,7 +121,7 @@ impl<'a> Run<'a> {
         clock: &'a Clock,
         effort: &'a Effort,
         tables: &'a Tables,
-        cut: Cut,
+        terms: Terms,
         record: &'a Record,
         buffers: Buffers,
     ) -> Self {
@@ -124,7 +129,7 @@ impl<'a> Run<'a> {
             clock,
             effort,
             tables,
-            cut,
+            terms,
             record,
             buffers,
         }
@@ -135,7 +140,11 @@ impl Run<'_> {
     /// The opening and, in the same turns, its limits.
     fn opening(&mut self, ways: &[Way]) -> Vec<Series> {
         let table = &self.tables.opener;
-        let (count, digest, sum) = (fingerprints(table, self.cut), reference::sha256(&MESSAGE), read_once(table));
+        let (count, digest, sum) = (
+            fingerprints(table, self.terms.cut),
+            reference::sha256(&MESSAGE),
+            read_once(table),
+        );
         // An opening that has no fingerprint has no limit that could be measured.
         let limits = if count > 0 {
             vec![Way::Reading, Way::OpenSsl]
@@ -155,7 +164,7 @@ impl Run<'_> {
             }
             Way::Library | Way::Reference => {
                 self.record.prepare(0, &mut self.buffers);
-                let (seconds, sent) = self.clock.time(|| open(way, table, self.cut, &mut self.buffers));
+                let (seconds, sent) = self.clock.time(|| open(way, table, self.terms, &mut self.buffers));
                 self.record.compare(way, 0, sent, &self.buffers);
                 seconds
             }
@@ -185,7 +194,9 @@ impl Run<'_> {
         let Round { query, reply, .. } = &self.record.rounds[round];
         let out = &mut self.buffers.out;
         out[..reply.len()].fill(UNSET);
-        let (seconds, length) = self.clock.time(|| answer(way, &self.tables.responder, self.cut, query, out));
+        let (seconds, length) = self
+            .clock
+            .time(|| answer(way, &self.tables.responder, self.terms, query, out));
         let same = *reply == out[..length];
         assert!(same, "the results differ: {}, answer {}", way.name(), round + 1);
         seconds
@@ -195,7 +206,9 @@ impl Run<'_> {
         let Round { reply, before, .. } = &self.record.rounds[round];
         self.record.prepare(round + 1, &mut self.buffers);
         let (table, buffers) = (&self.tables.opener, &mut self.buffers);
-        let (seconds, sent) = self.clock.time(|| take(way, table, self.cut, reply, before.session, buffers));
+        let (seconds, sent) = self
+            .clock
+            .time(|| take(way, table, self.terms, reply, before.session, buffers));
         self.record.compare(way, round + 1, sent, &self.buffers);
         seconds
     }

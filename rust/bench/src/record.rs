@@ -1,8 +1,8 @@
 //! A session driven to done by the reference, with all that passed: what each measured call is handed and must give.
 
 use crate::cases::{Table, Tables};
-use crate::ends::{answer, open, take, Buffers, Way, UNSET};
-use recon::{Cut, Sent, Session};
+use crate::ends::{answer, open, take, Buffers, Terms, Way, UNSET};
+use recon::{Sent, Session};
 
 /// The opener's state before a take, or after the last one.
 #[derive(PartialEq)]
@@ -46,32 +46,32 @@ pub struct Record {
 
 impl Record {
     /// Drives the session, and checks what it reports.
-    pub fn made(tables: &Tables, cut: Cut, buffers: &mut Buffers) -> Record {
-        let opened = open(Way::Reference, &tables.opener, cut, buffers);
-        Record::from(tables, cut, opened, buffers)
+    pub fn made(tables: &Tables, terms: Terms, buffers: &mut Buffers) -> Record {
+        let opened = open(Way::Reference, &tables.opener, terms, buffers);
+        Record::from(tables, terms, opened, buffers)
     }
 
     /// The same, but the first query is that of an opener without items, whose reply is one list of all ids.
-    pub fn in_one_range(tables: &Tables, cut: Cut, buffers: &mut Buffers) -> Record {
-        let opened = open(Way::Reference, &tables.opener, cut, buffers);
+    pub fn in_one_range(tables: &Tables, terms: Terms, buffers: &mut Buffers) -> Record {
+        let opened = open(Way::Reference, &tables.opener, terms, buffers);
         let (none, mut other) = (Table::default(), Buffers::with_room(tables, 0));
         other.marks.clear();
-        let asked = open(Way::Reference, &none, cut, &mut other);
+        let asked = open(Way::Reference, &none, terms, &mut other);
         buffers.out[..asked.length].copy_from_slice(&other.out[..asked.length]);
         let length = asked.length;
-        Record::from(tables, cut, Sent { length, ..opened }, buffers)
+        Record::from(tables, terms, Sent { length, ..opened }, buffers)
     }
 
     /// The session after this opening.
-    fn from(tables: &Tables, cut: Cut, opened: Sent, buffers: &mut Buffers) -> Record {
+    fn from(tables: &Tables, terms: Terms, opened: Sent, buffers: &mut Buffers) -> Record {
         let mut rounds = Vec::new();
         let mut sent = opened;
         while !sent.session.done {
             let before = State::of(sent.session, buffers);
             let query = buffers.out[..sent.length].to_vec();
-            let length = answer(Way::Reference, &tables.responder, cut, &query, &mut buffers.out);
+            let length = answer(Way::Reference, &tables.responder, terms, &query, &mut buffers.out);
             let reply = buffers.out[..length].to_vec();
-            sent = take(Way::Reference, &tables.opener, cut, &reply, sent.session, buffers);
+            sent = take(Way::Reference, &tables.opener, terms, &reply, sent.session, buffers);
             rounds.push(Round { query, reply, before });
         }
         let last = State::of(sent.session, buffers);

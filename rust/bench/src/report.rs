@@ -13,7 +13,12 @@ pub fn text(effort: &Effort, all: &[(Cut, Vec<Measured>)], listed: &str) -> Stri
     let mut parts = vec![head(effort, &openssl_version()), listed.to_string()];
     for (Cut { parts: b, limit }, all) in all {
         parts.push(format!("# Sessions with b = {b}, t = {limit}\n"));
-        parts.extend([openings(effort, all), sessions(effort, all), growth_table(all), faster(all)]);
+        parts.extend([
+            openings(effort, all),
+            sessions(effort, all),
+            growth_table(all),
+            faster(all),
+        ]);
     }
     parts.join("\n")
 }
@@ -57,7 +62,7 @@ fn time(measured: &Measured, call: Call, way: Way) -> String {
 }
 
 /// Times of library and reference, and their ratio.
-fn pair(measured: &Measured, call: Call) -> Vec<String> {
+pub fn pair(measured: &Measured, call: Call) -> Vec<String> {
     let ratio = quotient(measured.total(call, Way::Library), measured.total(call, Way::Reference));
     vec![
         time(measured, call, Way::Library),

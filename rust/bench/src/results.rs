@@ -47,6 +47,17 @@ pub struct Measured {
 }
 
 impl Measured {
+    /// A case of which nothing is measured yet.
+    pub fn none(case: &'static str, n: usize) -> Measured {
+        Measured {
+            case,
+            n,
+            queries: Vec::new(),
+            replies: Vec::new(),
+            series: Vec::new(),
+        }
+    }
+
     pub fn times(&self, call: Call, way: Way) -> Option<&[Time]> {
         let series = self
             .series

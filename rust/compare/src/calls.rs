@@ -151,20 +151,7 @@ impl Calls for Library {
     }
 
     fn run(&self, call: Call, lent: &mut Lent<'_>) -> Outcome {
-        let session = lent.session;
-        let answered = |length| Sent { length, session };
-        let result = match (call, lent.bytes) {
-            (Call::Open, None) => recon::open_session(lent.table, lent.cut, lent.marks, lent.needed, lent.out),
-            (Call::Open, Some(bytes)) => {
-                recon::open_session_within(lent.table, lent.cut, bytes, lent.marks, lent.needed, lent.out)
-            }
-            (Call::Answer, None) => recon::answer_query(lent.table, lent.cut, lent.message, lent.out).map(answered),
-            (Call::Answer, Some(bytes)) => {
-                recon::answer_query_within(lent.table, lent.cut, bytes, lent.message, lent.out).map(answered)
-            }
-            (Call::Take, bytes) => take(lent, bytes),
-        };
-        result.map_err(|refusal| {
+        safe_call(call, lent).map_err(|refusal| {
             // The safe crate gives the number alone. A refused call changed nothing, so the C call must refuse again.
             let again = raw::run(call, lent);
             assert_eq!(
@@ -221,18 +208,24 @@ impl Calls for Library {
     }
 }
 
-fn take(lent: &mut Lent<'_>, bytes: Option<usize>) -> Result<Sent, Refusal> {
+fn safe_call(call: Call, lent: &mut Lent<'_>) -> Result<Sent, Refusal> {
     let Lent {
         table,
         cut,
+        bytes,
         message,
         session,
         ..
     } = *lent;
     let (marks, needed, out) = (&mut *lent.marks, &mut *lent.needed, &mut *lent.out);
-    match bytes {
-        None => recon::take_reply(table, cut, message, session, marks, needed, out),
-        Some(bytes) => recon::take_reply_within(table, cut, bytes, message, session, marks, needed, out),
+    let answered = |length| Sent { length, session };
+    match (call, bytes) {
+        (Call::Open, None) => recon::open_session(table, cut, marks, needed, out),
+        (Call::Open, Some(bytes)) => recon::open_session_within(table, cut, bytes, marks, needed, out),
+        (Call::Answer, None) => recon::answer_query(table, cut, message, out).map(answered),
+        (Call::Answer, Some(bytes)) => recon::answer_query_within(table, cut, bytes, message, out).map(answered),
+        (Call::Take, None) => recon::take_reply(table, cut, message, session, marks, needed, out),
+        (Call::Take, Some(bytes)) => recon::take_reply_within(table, cut, bytes, message, session, marks, needed, out),
     }
 }
 
@@ -274,14 +267,12 @@ impl Calls for Reference {
             needed: session.needed,
             done: session.done,
         };
+        let (marks, needed, out) = (&mut *lent.marks, &mut *lent.needed, &mut *lent.out);
         let result = match call {
-            Call::Open => reference::open_within(times, ids, b, t, bytes, lent.marks, lent.needed, lent.out),
-            Call::Answer => reference::answer_within(times, ids, b, t, bytes, message, lent.out)
+            Call::Open => reference::open_within(times, ids, b, t, bytes, marks, needed, out),
+            Call::Answer => reference::answer_within(times, ids, b, t, bytes, message, out)
                 .map(|length| reference::Sent { length, session: given }),
-            Call::Take => {
-                let (marks, needed, out) = (&mut *lent.marks, &mut *lent.needed, &mut *lent.out);
-                reference::take_within(times, ids, b, t, bytes, message, given, marks, needed, out)
-            }
+            Call::Take => reference::take_within(times, ids, b, t, bytes, message, given, marks, needed, out),
         };
         let kept = if call == Call::Open { NO_SESSION } else { session };
         result.map(sent).map_err(|number| Refused { number, session: kept })

@@ -87,8 +87,8 @@ impl<'a> Input<'a> {
         Input { out, ..self }
     }
 
-    /// Out bytes that are enough for whatever a lawful call writes. A message of m bytes has at most m / 3 ranges, each of
-    /// them at most 48 bytes and its payload; the parts and lists of all ranges together are at most as many as the
+    /// Out bytes that are enough for whatever a lawful call writes. A message of m bytes has at most m / 3 ranges, each
+    /// of them at most 48 bytes and its payload; the parts and lists of all ranges together are at most as many as the
     /// items, each at most 60 bytes.
     pub fn most_room(&self) -> usize {
         1 + 60 * self.table.times.len() + 48 * (self.message.len() / 3 + 1)

@@ -36,7 +36,7 @@ impl Limit {
 }
 
 /// "If its message would exceed it, it keeps the longest run of ranges from the start that fits together with one last
-/// fingerprint range, from the run's end to infinity." The ranges are those that are written, neighbouring skips as one.
+/// fingerprint range, from the run's end to infinity." Ranges are those that are written, neighbouring skips as one.
 fn within(table: &Table, message: Vec<Range>, bytes: usize) -> Vec<Range> {
     let lengths = lengths(&message);
     if lengths[message.len()] <= bytes {
@@ -56,8 +56,8 @@ fn within(table: &Table, message: Vec<Range>, bytes: usize) -> Vec<Range> {
     run
 }
 
-/// "An ids range that doesn't fit whole is cut after the most ids that fit, at the shortest bound before the next id. If
-/// not one fits, the run ends before that range." The next id is one of this range, so at least one is not kept.
+/// "An ids range that doesn't fit whole is cut after the most ids that fit, at the shortest bound before the next id.
+/// If not one fits, the run ends before that range." The next id is one of this range, so at least one is not kept.
 fn cut_ids(table: &Table, run: &[Range], range: &Range, room: usize) -> Option<Range> {
     let ids = match &range.payload {
         Payload::Ids(ids) => ids,
@@ -109,7 +109,7 @@ mod tests {
         Range { upper, payload }
     }
 
-    /// Fingerprint ranges up to times below 215, after which so many bytes of 4,096 are left for ranges before the last one.
+    /// Fingerprint ranges up to times below 215, after which so many bytes of 4,096 are left for ranges before the last.
     fn filled(left: usize) -> Vec<Range> {
         let bytes = 4_096 - LAST_BYTES - 1 - left;
         // 19 bytes each; the prefix of the last bound makes up the rest.
@@ -185,7 +185,8 @@ mod tests {
         let own = three();
         let list = range(216, &[], ids(&own));
         let behind = [range(300, &[], Payload::Skip), last(Payload::Fingerprint([8; 16]))];
-        // A part takes 5 bytes and 32 for each id, the bound being 02 01 and a byte; the list with the bound 03 00 takes 100.
+        // A part takes 5 bytes and 32 for each id, its bound being 02 01 and a byte; the list takes 100, its bound
+        // being 03 00.
         for (left, count) in [(36, 0), (37, 1), (68, 1), (69, 2), (99, 2), (100, 3)] {
             let message = [filled(left), vec![list.clone()], behind.to_vec()].concat();
             let expected = match count {

@@ -1,5 +1,5 @@
-//! Every first byte of a message, and no byte: what stands behind it, the room, and faults of kinds 1 to 3 and 14 before
-//! it, with and without a byte limit.
+//! Every first byte of a message, and no byte: what stands behind it, the room, and faults of kinds 1 to 3 and 14
+//! before it, with and without a byte limit.
 use super::Case;
 use crate::calls::Call;
 use crate::compare::{same_bytes, Check};

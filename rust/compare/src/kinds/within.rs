@@ -193,7 +193,8 @@ fn sessions(case: &mut Case<'_, '_>) -> Check {
     case.expect(&exchange.take_input(&reply), 5).map(|_| ())
 }
 
-/// Tables that differ in any way, more often in many places; at times large ones with nothing in common, for many rounds.
+/// Tables that differ in any way, more often in many places; at times large ones with nothing in common, for many
+/// rounds.
 fn two_tables(case: &mut Case<'_, '_>) -> [OwnedTable; 2] {
     let rng = &mut case.rng;
     let shape = rng.pick(&SHAPES);

@@ -53,6 +53,30 @@ pub fn answer_query_within(
 /// As [`take_reply`](crate::take_reply), with a next query of at most `bytes` bytes. [`open_session_within`] has what a limit does. Marks,
 /// needed list and session become the same as without a limit.
 ///
+/// ```
+/// use recon::{answer_query_within, open_session_within, sha256, take_reply_within, Cut, Refusal, Table};
+///
+/// let times: Vec<u64> = (0..500).collect();
+/// let ids: Vec<u8> = times.iter().flat_map(|time| sha256(&time.to_be_bytes())).collect();
+/// let ours = Table { times: &times[..450], ids: &ids[..32 * 450] };
+/// let theirs = Table { times: &times[50..], ids: &ids[32 * 50..] };
+/// let (cut, limit) = (Cut { parts: 16, limit: 500 }, 4096);
+///
+/// // Such out buffers are enough for every message.
+/// let (mut out, mut reply) = ([0; 4096], [0; 4096]);
+/// let (mut marks, mut needed, mut rounds) = ([0; 450], [0; 32 * 500], 0);
+/// let mut sent = open_session_within(ours, cut, limit, &mut marks, &needed, &mut out)?;
+/// while !sent.session.done {
+///     let length = answer_query_within(theirs, cut, limit, &out[..sent.length], &mut reply)?;
+///     let reply = &reply[..length];
+///     sent = take_reply_within(ours, cut, limit, reply, sent.session, &mut marks, &mut needed, &mut out)?;
+///     rounds += 1;
+/// }
+/// assert_eq!((sent.session.marked, sent.session.needed), (50, 50));
+/// assert!(rounds > 1); // Without a limit it is one.
+/// # Ok::<(), Refusal>(())
+/// ```
+///
 /// # Errors
 /// Refusals 1 to 3, 14 for a limit below [`MIN_BYTE_LIMIT`](crate::MIN_BYTE_LIMIT), and 4 to 12; then no byte has changed, and the session is
 /// still the one handed over.

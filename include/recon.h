@@ -44,6 +44,9 @@ extern "C" {
 #define RECON_DEFAULT_PARTS 16
 #define RECON_DEFAULT_LIMIT 64
 
+/* The least byte limit. */
+#define RECON_MIN_BYTE_LIMIT 4096
+
 /* The bytes that an opening can need at most: with a given cut, and with any. It lists up to `limit` ids, or has a fingerprint for each part. */
 #define RECON_OPENING_BYTES(parts, limit) \
     (6 + 32 * (limit) > 1 + 60 * (parts) ? 6 + 32 * (limit) : 1 + 60 * (parts))
@@ -61,8 +64,8 @@ static inline size_t recon_tree_bytes(size_t items) {
 }
 
 /* The refusals: name, number, and what recon_strerror says of it. They are checked in the order of their numbers, save that 13 comes right
-   after 2. Of a message: its first byte is 0x61, or 0x60 to 0x6F for recon_answer (6), no varint starts with 0x80 (8), and no mode is above 2
-   (10). */
+   after 2, and 14 right after 3. Of a message: its first byte is 0x61, or 0x60 to 0x6F for an answer (6), no varint starts with 0x80 (8), and no
+   mode is above 2 (10). */
 #define RECON_REFUSALS(REFUSAL) \
     REFUSAL(RECON_TABLE_SIZE, 1, "the id bytes are not 32 for each time, or there are more than 1,048,576 items") \
     REFUSAL(RECON_TABLE_ORDER, 2, "the items do not rise strictly by time and id, or a time is 2^64 - 1") \
@@ -76,7 +79,8 @@ static inline size_t recon_tree_bytes(size_t items) {
     REFUSAL(RECON_BAD_MODE, 10, "a range of the message has an unknown mode") \
     REFUSAL(RECON_NEEDED_FULL, 11, "the needed buffer is too small for the ids that are lacking") \
     REFUSAL(RECON_NO_ROOM, 12, "the out buffer is too small for the message") \
-    REFUSAL(RECON_WRONG_TREE, 13, "the tree is not as long as one over these items is, or has no free place")
+    REFUSAL(RECON_WRONG_TREE, 13, "the tree is not as long as one over these items is, or has no free place") \
+    REFUSAL(RECON_BYTE_LIMIT, 14, "the byte limit is below 4,096")
 
 #define RECON_ENUMERATOR(name, number, text) name = number,
 enum { RECON_REFUSALS(RECON_ENUMERATOR) RECON_OK = 0 };
@@ -163,6 +167,34 @@ recon_session_answer recon_take(const uint64_t *times, size_t times_len, const u
                                 const uint8_t *reply, size_t reply_len, recon_session session, uint8_t *marks, size_t marks_len,
                                 uint8_t *needed, size_t needed_len, uint8_t *out, size_t out_len);
 
+/* Byte limits. The three calls once more, with the most bytes that the message written may have, the byte 0x61 included. A message that would
+   exceed its limit is cut short: of its ranges the longest run from the start is kept that fits together with one last range, the fingerprint of
+   the own items from the run's end to infinity. An ids range that does not fit whole is cut after the most ids that fit; if not one fits, the run
+   ends before it. That range stands for all that was left out, which later rounds bring where it differs.
+   Every call is given its own limit: calls with different limits, and without one, may stand in one session, at either end. Reports are as true,
+   and once the session is done as complete, as without limits; it takes more rounds where a message was cut short.
+   Checks and answers are those of the call without a limit, and bytes below RECON_MIN_BYTE_LIMIT, 0 too, is refused by 14, right after 3. The out
+   buffer may have fewer than `bytes` bytes and never needs more. Its length cuts nothing short: where the message, within its limit, is longer than
+   out, the call is refused by 12. */
+
+/* Opens a session, as recon_open does, with a query of at most `bytes` bytes.
+   Refuses by 1 to 3, 14, 4 and 12, in this order. */
+recon_session_answer recon_open_within(const uint64_t *times, size_t times_len, const uint8_t *ids, size_t ids_len, size_t parts, size_t limit,
+                                       size_t bytes, uint8_t *marks, size_t marks_len, const uint8_t *needed, size_t needed_len, uint8_t *out,
+                                       size_t out_len);
+
+/* The responder's answer to a query, as by recon_answer, of at most `bytes` bytes. A query of another protocol version is answered alike.
+   Refuses by 1 to 3, 14, 6 to 10 and 12, in this order. */
+recon_answer_t recon_answer_within(const uint64_t *times, size_t times_len, const uint8_t *ids, size_t ids_len, size_t parts, size_t limit,
+                                   size_t bytes, const uint8_t *query, size_t query_len, uint8_t *out, size_t out_len);
+
+/* The opener takes a reply, as recon_take does, and writes a next query of at most `bytes` bytes. Marks, needed list and whether the session is
+   done do not depend on the limit.
+   Refuses by 1 to 3, 14 and 4 to 12, in this order. */
+recon_session_answer recon_take_within(const uint64_t *times, size_t times_len, const uint8_t *ids, size_t ids_len, size_t parts, size_t limit,
+                                       size_t bytes, const uint8_t *reply, size_t reply_len, recon_session session, uint8_t *marks,
+                                       size_t marks_len, uint8_t *needed, size_t needed_len, uint8_t *out, size_t out_len);
+
 /* The fingerprint of the items at or above a lower bound and below an upper one, into the 16 bytes at out. A bound is infinite, or a time and
    a prefix of an id (0 to 32 bytes); missing id bytes count as 00. Where the lower bound is not below the upper one, the fingerprint of no items.
    Answers 0, or refuses by 1, 2 or 9 (a time 2^64 - 1, a prefix longer than 32, a prefix at infinity), and then out stays. */
@@ -246,6 +278,30 @@ static inline recon_session_answer recon_take_inline(const uint64_t *times, size
                       RECON_ROOM(out));
 }
 #define recon_take(...) recon_take_inline(__VA_ARGS__)
+
+static inline recon_session_answer recon_open_within_inline(const uint64_t *times, size_t times_len, const uint8_t *ids, size_t ids_len,
+                                                            size_t parts, size_t limit, size_t bytes, uint8_t *marks, size_t marks_len,
+                                                            const uint8_t *needed, size_t needed_len, uint8_t *out, size_t out_len) {
+    return recon_open_within(RECON_TIMES(times), RECON_BYTES(ids), parts, limit, bytes, RECON_ROOM(marks), RECON_BYTES(needed),
+                             RECON_ROOM(out));
+}
+#define recon_open_within(...) recon_open_within_inline(__VA_ARGS__)
+
+static inline recon_answer_t recon_answer_within_inline(const uint64_t *times, size_t times_len, const uint8_t *ids, size_t ids_len,
+                                                        size_t parts, size_t limit, size_t bytes, const uint8_t *query, size_t query_len,
+                                                        uint8_t *out, size_t out_len) {
+    return recon_answer_within(RECON_TIMES(times), RECON_BYTES(ids), parts, limit, bytes, RECON_BYTES(query), RECON_ROOM(out));
+}
+#define recon_answer_within(...) recon_answer_within_inline(__VA_ARGS__)
+
+static inline recon_session_answer recon_take_within_inline(const uint64_t *times, size_t times_len, const uint8_t *ids, size_t ids_len,
+                                                            size_t parts, size_t limit, size_t bytes, const uint8_t *reply, size_t reply_len,
+                                                            recon_session session, uint8_t *marks, size_t marks_len, uint8_t *needed,
+                                                            size_t needed_len, uint8_t *out, size_t out_len) {
+    return recon_take_within(RECON_TIMES(times), RECON_BYTES(ids), parts, limit, bytes, RECON_BYTES(reply), session, RECON_ROOM(marks),
+                             RECON_ROOM(needed), RECON_ROOM(out));
+}
+#define recon_take_within(...) recon_take_within_inline(__VA_ARGS__)
 
 static inline uint64_t recon_fingerprint_inline(const uint64_t *times, size_t times_len, const uint8_t *ids, size_t ids_len,
                                                 bool lower_infinite, uint64_t lower_time, const uint8_t *lower_prefix,

@@ -61,6 +61,37 @@ recon_session_answer(recon_take)(const uint64_t *times, size_t times_len, const 
     return answer;
 }
 
+recon_session_answer(recon_open_within)(const uint64_t *times, size_t times_len, const uint8_t *ids, size_t ids_len, size_t parts, size_t limit,
+                                        size_t bytes, uint8_t *marks, size_t marks_len, const uint8_t *needed, size_t needed_len, uint8_t *out,
+                                        size_t out_len) {
+    const recon_session_answer answer = {12, 34, {56, 78, true}};
+    table(times, times_len, ids, ids_len);
+    number(parts), number(limit), number(bytes);
+    slice(marks, marks_len), slice(needed, needed_len), slice(out, out_len);
+    return answer;
+}
+
+recon_answer_t(recon_answer_within)(const uint64_t *times, size_t times_len, const uint8_t *ids, size_t ids_len, size_t parts, size_t limit,
+                                    size_t bytes, const uint8_t *query, size_t query_len, uint8_t *out, size_t out_len) {
+    const recon_answer_t answer = {12, 34};
+    table(times, times_len, ids, ids_len);
+    number(parts), number(limit), number(bytes);
+    slice(query, query_len), slice(out, out_len);
+    return answer;
+}
+
+recon_session_answer(recon_take_within)(const uint64_t *times, size_t times_len, const uint8_t *ids, size_t ids_len, size_t parts, size_t limit,
+                                        size_t bytes, const uint8_t *reply, size_t reply_len, recon_session session, uint8_t *marks,
+                                        size_t marks_len, uint8_t *needed, size_t needed_len, uint8_t *out, size_t out_len) {
+    const recon_session_answer answer = {12, 34, {56, 78, true}};
+    table(times, times_len, ids, ids_len);
+    number(parts), number(limit), number(bytes);
+    slice(reply, reply_len);
+    number(session.marked), number(session.needed), number(session.done);
+    slice(marks, marks_len), slice(needed, needed_len), slice(out, out_len);
+    return answer;
+}
+
 uint64_t(recon_fingerprint)(const uint64_t *times, size_t times_len, const uint8_t *ids, size_t ids_len, bool lower_infinite,
                             uint64_t lower_time, const uint8_t *lower_prefix, size_t lower_prefix_len, bool upper_infinite,
                             uint64_t upper_time, const uint8_t *upper_prefix, size_t upper_prefix_len, uint8_t out[16]) {
@@ -168,6 +199,17 @@ static int is_tree_answer(recon_tree_answer a) {
            a.label.count == 123 && a.visited == 45;
 }
 
+/* The calls with a byte limit, which is 6. */
+static void calls_within(recon_session session) {
+    recon_session_answer opened = recon_open_within(TIMES(0), BYTES(1), evaluated(2), evaluated(3), evaluated(6), BYTES(2), BYTES(3), BYTES(4));
+    expect("recon_open_within", "TB236BBB", 3, is_answer(opened));
+    recon_answer_t answer = recon_answer_within(TIMES(0), BYTES(1), evaluated(2), evaluated(3), evaluated(6), BYTES(2), BYTES(3));
+    expect("recon_answer_within", "TB236BB", 3, answer.refusal == 12 && answer.length == 34);
+    recon_session_answer taken =
+        recon_take_within(TIMES(0), BYTES(1), evaluated(2), evaluated(3), evaluated(6), BYTES(2), session, BYTES(3), BYTES(4), BYTES(5));
+    expect("recon_take_within", "TB236B451BBB", 3, is_answer(taken));
+}
+
 static void all_calls(void) {
     const recon_session session = {4, 5, true};
     recon_session_answer opened = recon_open(TIMES(0), BYTES(1), evaluated(2), evaluated(3), BYTES(2), BYTES(3), BYTES(4));
@@ -176,6 +218,7 @@ static void all_calls(void) {
     expect("recon_answer", "TB23BB", 2, answer.refusal == 12 && answer.length == 34);
     recon_session_answer taken = recon_take(TIMES(0), BYTES(1), evaluated(2), evaluated(3), BYTES(2), session, BYTES(3), BYTES(4), BYTES(5));
     expect("recon_take", "TB23B451BBB", 2, is_answer(taken));
+    calls_within(session);
     uint64_t lower = recon_fingerprint(TIMES(0), BYTES(1), false, evaluated(3), BYTES(2), true, evaluated(5), BYTES(3), bytes);
     expect("recon_fingerprint", "TB03B15BO", 2, lower == 12);
     uint64_t upper = recon_fingerprint(TIMES(0), BYTES(1), true, evaluated(3), BYTES(2), false, evaluated(5), BYTES(3), bytes);

@@ -80,6 +80,37 @@ static void taken(unsigned empty) {
         expect("recon_take of all but a message", empty, x.refusal == RECON_OK && x.session.done);
 }
 
+static void opened_within(unsigned empty) {
+    lent a = fresh(), b = fresh();
+    recon_session_answer x = recon_open_within(NULL_OR(TIMES, a.times, 2), NULL_OR(IDS, a.ids, 64), 2, 2, 4096, NULL_OR(MARKS, a.marks, 2),
+                                               NULL_OR(NEEDED, a.needed, 64), NULL_OR(OUT, a.out, 128));
+    recon_session_answer y = (recon_open_within)(SOME_OR(TIMES, b.times, 2), SOME_OR(IDS, b.ids, 64), 2, 2, 4096, SOME_OR(MARKS, b.marks, 2),
+                                                 SOME_OR(NEEDED, b.needed, 64), SOME_OR(OUT, b.out, 128));
+    expect("recon_open_within", empty, alike(x, y) && memcmp(&a, &b, sizeof a) == 0);
+}
+
+static void answered_within(unsigned empty) {
+    lent a = fresh(), b = fresh();
+    recon_answer_t x = recon_answer_within(NULL_OR(TIMES, a.times, 2), NULL_OR(IDS, a.ids, 64), 2, 2, 4096, NULL_OR(MESSAGE, a.message, 5),
+                                           NULL_OR(OUT, a.out, 128));
+    recon_answer_t y = (recon_answer_within)(SOME_OR(TIMES, b.times, 2), SOME_OR(IDS, b.ids, 64), 2, 2, 4096, SOME_OR(MESSAGE, b.message, 5),
+                                             SOME_OR(OUT, b.out, 128));
+    unrefused += x.refusal == RECON_OK;
+    expect("recon_answer_within", empty, x.refusal == y.refusal && x.length == y.length && memcmp(&a, &b, sizeof a) == 0);
+}
+
+static void taken_within(unsigned empty) {
+    const recon_session session = {0, 0, false};
+    lent a = fresh(), b = fresh();
+    recon_session_answer x =
+        recon_take_within(NULL_OR(TIMES, a.times, 2), NULL_OR(IDS, a.ids, 64), 2, 2, 4096, NULL_OR(MESSAGE, a.message, 5), session,
+                          NULL_OR(MARKS, a.marks, 2), NULL_OR(NEEDED, a.needed, 64), NULL_OR(OUT, a.out, 128));
+    recon_session_answer y =
+        (recon_take_within)(SOME_OR(TIMES, b.times, 2), SOME_OR(IDS, b.ids, 64), 2, 2, 4096, SOME_OR(MESSAGE, b.message, 5), session,
+                            SOME_OR(MARKS, b.marks, 2), SOME_OR(NEEDED, b.needed, 64), SOME_OR(OUT, b.out, 128));
+    expect("recon_take_within", empty, alike(x, y) && memcmp(&a, &b, sizeof a) == 0);
+}
+
 static void fingerprinted(unsigned empty) {
     lent a = fresh(), b = fresh();
     uint64_t x = recon_fingerprint(NULL_OR(TIMES, a.times, 2), NULL_OR(IDS, a.ids, 64), false, 0, NULL_OR(LOWER, a.prefix, 1), false, 9,
@@ -135,6 +166,9 @@ int main(void) {
         opened(empty);
         answered(empty);
         taken(empty);
+        opened_within(empty);
+        answered_within(empty);
+        taken_within(empty);
         fingerprinted(empty);
         digested(empty);
         built(empty);

@@ -1,5 +1,5 @@
-/* How much stack a take keeps, at most 512 KiB, and a call on the largest tree of a table, at most 16 KiB. Each runs on a stack of its own, every
-   byte of which is written before; what is changed afterwards was used. */
+/* How much stack a take keeps, with and without a byte limit, at most 512 KiB, and a call on the largest tree of a table, at most 16 KiB. Each
+   runs on a stack of its own, every byte of which is written before; what is changed afterwards was used. */
 #define _GNU_SOURCE
 #include "recon.h"
 #include <pthread.h>
@@ -9,12 +9,13 @@
 
 #define OWN 20000
 #define THEIRS 60000
+#define LISTED 50
 #define LIMIT ((size_t)512 * 1024)
 #define TREE_LIMIT ((size_t)16 * 1024)
 #define STACK ((size_t)4 * 1024 * 1024)
 #define UNUSED 0xa5
 
-static uint64_t own_times[OWN], their_times[THEIRS];
+static uint64_t own_times[OWN];
 static uint8_t own_ids[32 * OWN], their_ids[32 * THEIRS], marks[OWN], needed[32 * THEIRS];
 static uint8_t query[32 * OWN + 4096], reply[33 * THEIRS + 4096];
 static size_t reply_length, room;
@@ -32,13 +33,10 @@ static uint64_t next(uint64_t *state) {
     return z ^ (z >> 31);
 }
 
-static void fill(uint64_t *times, uint8_t *ids, size_t count, uint64_t seed) {
-    for (size_t i = 0; i < count; i++) {
-        times[i] = i;
-        for (size_t k = 0; k < 4; k++) {
-            uint64_t word = next(&seed);
-            memcpy(ids + 32 * i + 8 * k, &word, 8);
-        }
+static void fill(uint8_t *ids, size_t count, uint64_t seed) {
+    for (size_t i = 0; i < 4 * count; i++) {
+        uint64_t word = next(&seed);
+        memcpy(ids + 8 * i, &word, 8);
     }
 }
 
@@ -46,6 +44,13 @@ static void *take(void *unused) {
     (void)unused;
     answer = recon_take(own_times, OWN, own_ids, sizeof own_ids, 16, 64, reply, reply_length, answer.session, marks, OWN, needed, 32 * room,
                         query, sizeof query);
+    return NULL;
+}
+
+static void *take_within(void *unused) {
+    (void)unused;
+    answer = recon_take_within(own_times, OWN, own_ids, sizeof own_ids, 16, 64, RECON_MIN_BYTE_LIMIT, reply, reply_length, answer.session,
+                               marks, OWN, needed, 32 * room, query, sizeof query);
     return NULL;
 }
 
@@ -90,11 +95,11 @@ static size_t used_by(void *call(void *), uint64_t refusal) {
     return STACK - untouched;
 }
 
-/* The same of the take of the reply, with room for so many needed ids. */
-static size_t used(size_t ids, uint64_t refusal) {
+/* The same of a take of the reply, with room for so many needed ids. */
+static size_t used(void *call(void *), size_t ids, uint64_t refusal) {
     room = ids;
     answer = recon_open(own_times, OWN, own_ids, sizeof own_ids, 16, 64, marks, OWN, needed, 32 * room, query, sizeof query);
-    return used_by(take, refusal);
+    return used_by(call, refusal);
 }
 
 /* The most that one of the calls on trees uses. */
@@ -116,15 +121,47 @@ static size_t used_for_trees(void) {
     return most;
 }
 
+static size_t put_varint(size_t at, size_t value) {
+    for (int shift = value < 1 << 7 ? 0 : value < 1 << 14 ? 7 : 14; shift >= 0; shift -= 7)
+        reply[at++] = (uint8_t)((value >> shift & 127) | (shift > 0 ? 128 : 0));
+    return at;
+}
+
+/* The reply: all of their ids in one range, with half of the own items, and then a fingerprint for each LISTED items, so that the next query has
+   as many ids and is far above a byte limit. */
+static void make_reply(void) {
+    const size_t half = OWN / 2;
+    size_t at = 1;
+    reply[0] = 0x61;
+    at = put_varint(at, half + 1);
+    reply[at++] = 0;
+    reply[at++] = 2;
+    at = put_varint(at, THEIRS);
+    memcpy(reply + at, their_ids, sizeof their_ids);
+    at += sizeof their_ids;
+    for (size_t time = half + LISTED; time <= OWN; time += LISTED) {
+        at = put_varint(at, LISTED + 1);
+        reply[at++] = 0;
+        reply[at++] = 1;
+        memset(reply + at, 0, RECON_FINGERPRINT_BYTES);
+        at += RECON_FINGERPRINT_BYTES;
+    }
+    reply_length = at;
+}
+
 int main(void) {
-    fill(own_times, own_ids, OWN, 1);
-    fill(their_times, their_ids, THEIRS, 2);
-    /* The reply to an opener without items: all ids in one range. */
-    recon_session_answer empty = recon_open(own_times, 0, own_ids, 0, 16, 64, marks, 0, needed, 0, query, sizeof query);
-    recon_answer_t all = recon_answer(their_times, THEIRS, their_ids, sizeof their_ids, 16, 64, query, empty.length, reply, sizeof reply);
-    reply_length = all.length;
-    size_t joined = used(THEIRS, 0), refused = used(THEIRS - 1, 11), trees = used_for_trees();
-    printf("a take keeps %zu KiB on the stack, one that is refused by 11 %zu KiB, a call on a tree %zu KiB\n", joined / 1024, refused / 1024,
-           trees / 1024);
-    return joined <= LIMIT && refused <= LIMIT && trees <= TREE_LIMIT ? 0 : 1;
+    for (size_t i = 0; i < OWN; i++) own_times[i] = i;
+    fill(own_ids, OWN, 1);
+    fill(their_ids, THEIRS, 2);
+    make_reply();
+    size_t joined = used(take, THEIRS, 0), whole = answer.length;
+    size_t within = used(take_within, THEIRS, 0), cut_short = answer.length;
+    if (whole <= RECON_MIN_BYTE_LIMIT || cut_short > RECON_MIN_BYTE_LIMIT) {
+        printf("the next query has %zu bytes, and with a byte limit %zu\n", whole, cut_short);
+        return 1;
+    }
+    size_t refused = used(take, THEIRS - 1, 11), refused_within = used(take_within, THEIRS - 1, 11), trees = used_for_trees();
+    printf("a take keeps %zu KiB on the stack, with a byte limit %zu KiB, one that is refused by 11 %zu and %zu KiB, a call on a tree %zu KiB\n",
+           joined / 1024, within / 1024, refused / 1024, refused_within / 1024, trees / 1024);
+    return joined <= LIMIT && within <= LIMIT && refused <= LIMIT && refused_within <= LIMIT && trees <= TREE_LIMIT ? 0 : 1;
 }

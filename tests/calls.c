@@ -406,8 +406,17 @@ static void refusal_texts(void) {
     expect("the largest number is unknown", strcmp(recon_strerror(UINT64_MAX), "unknown refusal") == 0);
 }
 
+/* The answer of three items, with a byte limit or, where that is 0, without one. */
+static recon_answer_t answered(size_t bytes, const uint8_t *query, size_t length, uint8_t *out, size_t room) {
+    if (bytes == 0)
+        return recon_answer(times, 3, ids, 96, 2, 2, query, length, out, room);
+    return recon_answer_within(times, 3, ids, 96, 2, 2, bytes, query, length, out, room);
+}
+
+static int is_refusal(recon_answer_t answer, uint64_t number) { return answer.refusal == number && answer.length == 0; }
+
 /* E12, E13: the answer to each first byte, without room for it and with; what follows 62 is not read. */
-static void versions(void) {
+static void versions_within(size_t bytes) {
     uint8_t query[2] = {0, 0x80}, out[2];
     const uint8_t version[1] = {0x61};
     for (unsigned first = 0; first < 256; first++) {
@@ -415,17 +424,451 @@ static void versions(void) {
         const uint64_t number = first == 0x61 ? RECON_BAD_VARINT : RECON_WRONG_VERSION;
         query[0] = (uint8_t)first;
         memset(out, OLD, sizeof out);
-        recon_answer_t answer = recon_answer(times, 3, ids, 96, 2, 2, query, 2, out, 0);
-        expect("a version without room", answer.refusal == (other ? RECON_NO_ROOM : number) && answer.length == 0 && begins(out, 2, nothing, 0));
-        answer = recon_answer(times, 3, ids, 96, 2, 2, query, 2, out, 1);
+        expect("a byte limit before a version", is_refusal(answered(4095, query, 2, out, 1), RECON_BYTE_LIMIT) && begins(out, 2, nothing, 0));
+        recon_answer_t answer = answered(bytes, query, 2, out, 0);
+        expect("a version without room", is_refusal(answer, other ? RECON_NO_ROOM : number) && begins(out, 2, nothing, 0));
+        answer = answered(bytes, query, 2, out, 1);
         expect("a version with room", answer.refusal == (other ? RECON_OK : number) && answer.length == other && begins(out, 2, version, other));
     }
     memset(out, OLD, sizeof out);
-    recon_answer_t answer = recon_answer(times, 3, ids, 96, 2, 2, query, 0, out, 1);
-    expect("an empty query", answer.refusal == RECON_WRONG_VERSION && answer.length == 0 && begins(out, 2, nothing, 0));
+    expect("an empty query", is_refusal(answered(bytes, query, 0, out, 1), RECON_WRONG_VERSION) && begins(out, 2, nothing, 0));
+    expect("a byte limit before it", is_refusal(answered(4095, query, 0, out, 1), RECON_BYTE_LIMIT) && begins(out, 2, nothing, 0));
 }
 
-/* The refusal of an answer about a table of n items, with so many bytes of ids, or by this cut. */
+static void versions(void) {
+    versions_within(0);
+    versions_within(4096);
+}
+
+/* The three calls of a session with a byte limit. The cut lists up to 4,096 items. A take begins a session that reports nothing. */
+enum { OPEN, ANSWER, TAKE, CALLS, LISTED = RECON_MAX_LIMIT };
+
+/* One of them, its table, and the query or reply that it is handed. */
+typedef struct {
+    int call;
+    const uint64_t *times;
+    const uint8_t *ids;
+    size_t n;
+    const uint8_t *message;
+    size_t length;
+} asked;
+
+static recon_answer_t within(asked a, size_t bytes, uint8_t *out, size_t room) {
+    static uint8_t marks[512], needed[1];
+    const recon_session begun = {0, 0, false};
+    recon_session_answer sent;
+    memset(marks, 0, sizeof marks);
+    if (a.call == ANSWER)
+        return recon_answer_within(a.times, a.n, a.ids, 32 * a.n, 2, LISTED, bytes, a.message, a.length, out, room);
+    if (a.call == OPEN)
+        sent = recon_open_within(a.times, a.n, a.ids, 32 * a.n, 2, LISTED, bytes, marks, a.n, needed, 0, out, room);
+    else
+        sent = recon_take_within(a.times, a.n, a.ids, 32 * a.n, 2, LISTED, bytes, a.message, a.length, begun, marks, a.n, needed, 0, out, room);
+    expect("a session that reports nothing", is_session(sent.session, 0, 0, false));
+    return (recon_answer_t){sent.refusal, sent.length};
+}
+
+/* The call writes just this message, in as many bytes of room and in more. In one byte less it is refused by 12 and not cut shorter. */
+static void writes(const char *what, asked a, size_t bytes, const uint8_t *message, size_t length) {
+    static uint8_t out[10000];
+    const size_t rooms[2] = {length, sizeof out};
+    memset(out, OLD, sizeof out);
+    expect(what, is_refusal(within(a, bytes, out, length - 1), RECON_NO_ROOM) && begins(out, sizeof out, nothing, 0));
+    for (size_t r = 0; r < 2; r++) {
+        memset(out, OLD, sizeof out);
+        recon_answer_t answer = within(a, bytes, out, rooms[r]);
+        expect(what, answer.refusal == RECON_OK && answer.length == length && begins(out, sizeof out, message, length));
+    }
+}
+
+/* 128 items of one time. All ids take 4,102 bytes; within a limit below that there are 127 of them, and the fingerprint of the last. */
+static void cut_list(void) {
+    static const uint8_t last[19] = {0, 0, 1, 0x1c, 0x73, 0x4a, 0x0c, 0xf1, 0x88, 0x26, 0xcc, 0x4f, 0x0b, 0xa6, 0x47, 0x99, 0x5d, 0xa3, 0xd5};
+    static const size_t too_low[] = {0, 1, 4095};
+    static uint64_t t[128];
+    static uint8_t i[32 * 128], whole[4102] = {0x61, 0, 0, 2, 0x81, 0}, cut[4090] = {0x61, 6, 2, 1, 0x7f, 2, 0x7f};
+    const uint8_t differs[20] = {0x61, 0, 0, 1};
+    uint8_t out[8];
+    for (size_t k = 0; k < 128; k++) {
+        t[k] = 5;
+        i[32 * k] = 1;
+        i[32 * k + 1] = (uint8_t)k;
+    }
+    memcpy(whole + 6, i, sizeof i);
+    memcpy(cut + 7, i, 32 * 127);
+    memcpy(cut + sizeof cut - 19, last, 19);
+    for (int call = 0; call < CALLS; call++) {
+        const asked a = {call, t, i, 128, differs, sizeof differs};
+        writes("the least limit", a, 4096, cut, sizeof cut);
+        writes("a limit of one byte less than the message", a, 4101, cut, sizeof cut);
+        writes("a limit of as many bytes as the message", a, 4102, whole, sizeof whole);
+        writes("a limit of one byte more", a, 4103, whole, sizeof whole);
+        writes("the largest limit", a, SIZE_MAX, whole, sizeof whole);
+        memset(out, OLD, sizeof out);
+        for (size_t k = 0; k < sizeof too_low / sizeof too_low[0]; k++)
+            expect("a limit that is too low", is_refusal(within(a, too_low[k], out, sizeof out), RECON_BYTE_LIMIT) && begins(out, 8, nothing, 0));
+    }
+}
+
+static size_t put_varint(uint8_t *m, size_t at, uint64_t value) {
+    unsigned shift = 0;
+    while (value >> shift >= 128)
+        shift += 7;
+    for (; shift > 0; shift -= 7)
+        m[at++] = (uint8_t)(128 | (value >> shift & 127));
+    m[at++] = value & 127;
+    return at;
+}
+
+/* Puts the last range of a message that was cut short: the fingerprint of n ids, up to infinity. Answers where it ends, as the others below. */
+static size_t put_last(uint8_t *m, size_t at, const uint8_t *i, size_t n) {
+    const recon_label label = summed(i, n);
+    uint8_t hashed[42], digest[32], head[3] = {0, 0, 1};
+    for (size_t j = 0; j < 4; j++)
+        put_word(hashed + 8 * j, label.sum[j]);
+    recon_sha256(hashed, put_varint(hashed, 32, n), digest);
+    memcpy(m + at, head, 3);
+    memcpy(m + at + 3, digest, 16);
+    return at + 19;
+}
+
+/* Puts the same range so many times. */
+static size_t repeat(uint8_t *m, size_t at, const uint8_t *range, size_t bytes, size_t count) {
+    for (; count > 0; count--, at += bytes)
+        memcpy(m + at, range, bytes);
+    return at;
+}
+
+/* Messages of many ranges, each of which ends at the next time. The table is empty, so that a fingerprint which differs gives a list of no ids. */
+static const uint8_t differing[19] = {2, 0, 1}, skipped[3] = {2, 0, 0}, empty_list[4] = {2, 0, 2, 0};
+
+/* So many of them, then skips, then more of them; the limit; how many are kept before the skips, whether the skips are (as one range), and how many
+   behind them; and the bytes. */
+typedef struct {
+    size_t lists, skips, more, bytes, kept, skip, kept_more, length;
+} run_row;
+static const run_row run_rows[] = {
+    {1023, 0, 0, 4096, 1023, 0, 0, 4093}, /* all fits */
+    {1024, 0, 0, 4097, 1024, 0, 0, 4097},
+    {1024, 0, 0, 4096, 1019, 0, 0, 4096}, /* the last fingerprint takes the bytes of five ranges */
+    {2000, 0, 0, 4099, 1019, 0, 0, 4096},
+    {2000, 0, 0, 4100, 1020, 0, 0, 4100},
+    {1018, 1, 99, 4096, 1018, 1, 0, 4095}, /* a skip at the end of the run */
+    {1018, 50, 99, 4096, 1018, 1, 0, 4095},
+    {1017, 50, 99, 4096, 1017, 1, 1, 4095},
+    {1019, 1, 99, 4096, 1019, 0, 0, 4096}, /* no room for the skip */
+    {1019, 1, 99, 4098, 1019, 0, 0, 4096},
+    {1019, 1, 99, 4099, 1019, 1, 0, 4099},
+    {1023, 50, 0, 4096, 1023, 0, 0, 4093}, /* a skip at the end of the message is not written */
+    {1100, 50, 0, 4096, 1019, 0, 0, 4096},
+};
+
+static void cut_runs(void) {
+    static uint8_t query[40000], expected[10000];
+    query[0] = expected[0] = 0x61;
+    for (size_t r = 0; r < sizeof run_rows / sizeof run_rows[0]; r++) {
+        const run_row row = run_rows[r];
+        const uint8_t skip[3] = {(uint8_t)(row.skips + 1), 0, 0};
+        size_t length = repeat(query, 1, differing, 19, row.lists);
+        length = repeat(query, length, skipped, 3, row.skips);
+        length = repeat(query, length, differing, 19, row.more);
+        size_t end = repeat(expected, 1, empty_list, 4, row.kept);
+        end = repeat(expected, end, skip, 3, row.skip);
+        end = repeat(expected, end, empty_list, 4, row.kept_more);
+        if (row.kept < row.lists || row.kept_more < row.more)
+            end = put_last(expected, end, ids, 0);
+        expect("the bytes of a run of ranges", end == row.length);
+        writes("an answer of many ranges", (asked){ANSWER, times, ids, 0, query, length}, row.bytes, expected, end);
+        writes("a query of many ranges", (asked){TAKE, times, ids, 0, query, length}, row.bytes, expected, end);
+    }
+}
+
+/* Two neighbouring skips are one range, which does not fit; the first of them alone would. */
+static void skips_as_one(void) {
+    static uint8_t query[40000], expected[10000];
+    uint8_t to_prefix[35] = {1, 32, [33] = 1};
+    query[0] = expected[0] = 0x61;
+    size_t length = repeat(query, 1, differing, 19, 1018);
+    length = repeat(query, length, skipped, 3, 1);
+    length = repeat(query, length, to_prefix, 35, 1);
+    length = repeat(query, length, differing, 19, 9);
+    size_t end = put_last(expected, repeat(expected, 1, empty_list, 4, 1018), ids, 0);
+    writes("an answer with two skips", (asked){ANSWER, times, ids, 0, query, length}, 4096, expected, end);
+    writes("a query with two skips", (asked){TAKE, times, ids, 0, query, length}, 4096, expected, end);
+}
+
+/* 300 items of times from 1,000 on, asked for in three ranges by fingerprints that differ. */
+enum { ITEMS = 300, START = 1000 };
+static uint64_t list_times[ITEMS];
+static uint8_t list_ids[32 * ITEMS];
+
+/* Puts the upper bound of the range that has the items from one place to below another. Behind the last item it is infinity. */
+static size_t put_upper(uint8_t *m, size_t at, size_t from, size_t to) {
+    at = put_varint(m, at, to == ITEMS ? 0 : to - from + 1 + (from == 0 ? START : 0));
+    m[at++] = 0;
+    return at;
+}
+
+static size_t put_list(uint8_t *m, size_t at, size_t from, size_t to) {
+    at = put_upper(m, at, from, to);
+    m[at++] = 2;
+    at = put_varint(m, at, to - from);
+    memcpy(m + at, list_ids + 32 * from, 32 * (to - from));
+    return at + 32 * (to - from);
+}
+
+/* The items of the first two ranges; the limit; the ranges that are kept whole, and the ids of the next one that are; the bytes. */
+typedef struct {
+    size_t first, second, bytes, whole, more, length;
+} list_row;
+static const list_row list_rows[] = {
+    {100, 100, 4096, 1, 27, 4093}, {100, 100, 4124, 1, 27, 4093}, {100, 100, 4125, 1, 28, 4125},
+    {126, 100, 4096, 1, 1, 4093},  {127, 100, 4096, 1, 0, 4089},  {127, 100, 4124, 1, 0, 4089}, /* not one fits */
+    {127, 100, 4125, 1, 1, 4125},  {127, 1, 4124, 1, 0, 4089}, /* a single one that does not fit */
+    {127, 1, 4125, 2, 0, 4125},    {126, 1, 4096, 2, 0, 4093},
+    {200, 50, 4096, 0, 127, 4089}, {1, 250, 4158, 1, 127, 4126},  {1, 250, 4159, 1, 128, 4159}, /* the count grows by a byte */
+    {100, 100, 9613, 2, 99, 9601}, {100, 100, 9614, 3, 0, 9614}, /* the last range, and all */
+};
+
+static void cut_lists(void) {
+    static uint8_t query[128], expected[10000];
+    for (size_t k = 0; k < ITEMS; k++) {
+        list_times[k] = START + k;
+        list_ids[32 * k] = (uint8_t)k;
+        list_ids[32 * k + 31] = (uint8_t)(k + 200);
+    }
+    query[0] = expected[0] = 0x61;
+    for (size_t r = 0; r < sizeof list_rows / sizeof list_rows[0]; r++) {
+        const list_row row = list_rows[r];
+        const size_t bounds[4] = {0, row.first, row.first + row.second, ITEMS}, next = bounds[row.whole], kept = next + row.more;
+        size_t length = 1, end = 1;
+        for (size_t k = 0; k < 3; k++) {
+            length = put_upper(query, length, bounds[k], bounds[k + 1]);
+            length = repeat(query, length, differing + 2, 17, 1);
+        }
+        for (size_t k = 0; k < row.whole; k++)
+            end = put_list(expected, end, bounds[k], bounds[k + 1]);
+        if (row.more > 0)
+            end = put_list(expected, end, next, kept);
+        if (kept < ITEMS)
+            end = put_last(expected, end, list_ids + 32 * kept, ITEMS - kept);
+        expect("the bytes of lists", end == row.length);
+        writes("an answer of lists", (asked){ANSWER, list_times, list_ids, ITEMS, query, length}, row.bytes, expected, end);
+        writes("a query of lists", (asked){TAKE, list_times, list_ids, ITEMS, query, length}, row.bytes, expected, end);
+    }
+}
+
+/* All that a call with a byte limit is handed. */
+typedef struct {
+    uint64_t times[3];
+    uint8_t ids[96], message[56], marks[3], needed[32], out[105];
+    size_t ids_len, parts, message_len, marks_len, needed_len, out_len;
+    recon_session session;
+} given;
+
+/* The bytes that each call writes: all ids; those of two items and the other one's; a skip and the other one's. */
+static const size_t lengths[CALLS] = {101, 105, 40};
+
+/* What no call refuses, or, with a fault, what is refused by the fault's number. The message lists an id that is lacking up to time 6, and has a
+   fingerprint that differs behind it. */
+static void prepare(int call, given *g, uint64_t fault) {
+    const uint8_t message[56] = {0x61, 7, 0, 2, 1, 9, [39] = 1};
+    memset(g, 0, sizeof *g);
+    memcpy(g->times, times, sizeof times);
+    memcpy(g->ids, ids, sizeof ids);
+    memcpy(g->message, message, sizeof message);
+    memset(g->needed, OLD, sizeof g->needed);
+    memset(g->out, OLD, sizeof g->out);
+    g->marks[0] = 1;
+    g->session.marked = 1;
+    g->ids_len = fault == 1 ? 95 : 96;
+    g->times[1] = fault == 2 ? UINT64_MAX : 5;
+    g->parts = fault == 3 ? 1 : 2;
+    g->marks_len = fault == 4 ? 2 : 3;
+    g->session.done = fault == 5;
+    g->message[0] = fault == 6 ? 0x70 : 0x61;
+    g->message_len = fault == 7 ? 55 : 56;
+    g->message[1] = fault == 8 ? 0x80 : 7;
+    g->message[2] = fault == 9 ? 33 : 0;
+    g->message[3] = fault == 10 ? 3 : 2;
+    g->needed_len = fault == 11 ? 0 : 32;
+    g->out_len = lengths[call] - (fault == 12);
+}
+
+static recon_session_answer given_to(int call, given *g, size_t bytes) {
+    if (call == OPEN)
+        return recon_open_within(g->times, 3, g->ids, g->ids_len, g->parts, 64, bytes, g->marks, g->marks_len, g->needed, g->needed_len, g->out,
+                                 g->out_len);
+    if (call == TAKE)
+        return recon_take_within(g->times, 3, g->ids, g->ids_len, g->parts, 64, bytes, g->message, g->message_len, g->session, g->marks,
+                                 g->marks_len, g->needed, g->needed_len, g->out, g->out_len);
+    recon_answer_t answer =
+        recon_answer_within(g->times, 3, g->ids, g->ids_len, g->parts, 64, bytes, g->message, g->message_len, g->out, g->out_len);
+    return (recon_session_answer){answer.refusal, answer.length, g->session};
+}
+
+/* A call with a fault, or 0 for none, and a byte limit. 14 comes right after 3, and a refusal changes nothing. */
+static void refused_within(int call, uint64_t fault, size_t bytes) {
+    static given g, before;
+    const uint64_t number = bytes < 4096 && (fault == 0 || fault > 3) ? RECON_BYTE_LIMIT : fault;
+    prepare(call, &g, fault);
+    memcpy(&before, &g, sizeof g);
+    recon_session_answer a = given_to(call, &g, bytes);
+    expect("a byte limit and another fault", a.refusal == number && a.length == (number == 0 ? lengths[call] : 0));
+    expect("a refusal changes nothing", (memcmp(&g, &before, sizeof g) == 0) == (number != 0));
+    if (call == OPEN)
+        expect("an opened session", is_session(a.session, 0, 0, false));
+    else if (call == TAKE && number == 0)
+        expect("a session that went on", is_session(a.session, 2, 1, false));
+    else
+        expect("a session stays", is_session(a.session, 1, 0, fault == 5));
+}
+
+static void limit_refusals(void) {
+    static const uint64_t faults[CALLS][13] = {{1, 2, 3, 4, 12}, {1, 2, 3, 6, 7, 8, 9, 10, 12}, {1, 2, 3, 4, 5, 6, 7, 8, 9, 10, 11, 12}};
+    static const size_t limits[] = {0, 1, 4095, 4096, 4097, SIZE_MAX};
+    for (int call = 0; call < CALLS; call++)
+        for (size_t k = 0; k < sizeof limits / sizeof limits[0]; k++) {
+            refused_within(call, 0, limits[k]);
+            for (size_t f = 0; faults[call][f] != 0; f++)
+                refused_within(call, faults[call][f], limits[k]);
+        }
+}
+
+/* E11 with a byte limit: the session is done, without room for a message. */
+static void done_within(void) {
+    const uint8_t reply[5] = {0x61, 0, 0, 2, 0}, one[1] = {1};
+    const recon_session begun = {0, 0, false};
+    uint8_t marks[2] = {0, OLD}, needed[32], none[1] = {OLD};
+    memset(needed, OLD, sizeof needed);
+    recon_session_answer taken = recon_take_within(times, 1, ids, 32, 2, 2, 4096, reply, 5, begun, marks, 1, needed, 32, none, 0);
+    expect("E11 is done within a limit", taken.refusal == RECON_OK && taken.length == 0 && is_session(taken.session, 1, 0, true));
+    expect("E11 marks its item", begins(marks, 2, one, 1) && begins(needed, 32, nothing, 0) && none[0] == OLD);
+}
+
+/* Two tables with most records in common: ours lacks each seventh, theirs each fifth. Their ids rise, too. */
+enum { RECORDS = 5000, ROOM = 400000 };
+
+typedef struct {
+    uint64_t times[RECORDS];
+    uint8_t ids[32 * RECORDS];
+    size_t n;
+} table;
+static table ours, theirs;
+static uint8_t our_marks[RECORDS], our_needed[32 * RECORDS], sent_query[ROOM], sent_reply[ROOM];
+
+static bool we_have(size_t k) { return k % 7 != 3; }
+
+static bool they_have(size_t k) { return k % 5 != 1; }
+
+static void id_of(size_t k, uint8_t id[32]) {
+    const uint8_t number[4] = {0, 0, (uint8_t)(k >> 8), (uint8_t)k};
+    recon_sha256(number, 4, id);
+    memcpy(id, number, 4);
+}
+
+static void fill(table *t, bool has(size_t)) {
+    t->n = 0;
+    for (size_t k = 0; k < RECORDS; k++)
+        if (has(k)) {
+            t->times[t->n] = k / 3;
+            id_of(k, t->ids + 32 * t->n++);
+        }
+}
+
+/* What the session reports is true and, if it is done, all. */
+static int reported_rightly(recon_session s) {
+    size_t item = 0, marked = 0, needed = 0;
+    uint8_t id[32];
+    for (size_t k = 0; k < RECORDS; k++) {
+        id_of(k, id);
+        if (we_have(k)) {
+            const uint8_t mark = our_marks[item++];
+            if (mark > 1 || (they_have(k) ? mark == 1 : s.done && mark == 0))
+                return 0;
+            marked += mark;
+        } else if (they_have(k)) {
+            const bool listed = needed < s.needed && memcmp(our_needed + 32 * needed, id, 32) == 0;
+            if (s.done && !listed)
+                return 0;
+            needed += listed;
+        }
+    }
+    return item == ours.n && marked == s.marked && needed == s.needed;
+}
+
+/* The calls of the two ends, with a byte limit or, where that is 0, without one. */
+static recon_session_answer open_ours(size_t bytes) {
+    if (bytes == 0)
+        return recon_open(ours.times, ours.n, ours.ids, 32 * ours.n, 16, 64, our_marks, ours.n, our_needed, sizeof our_needed, sent_query, ROOM);
+    return recon_open_within(ours.times, ours.n, ours.ids, 32 * ours.n, 16, 64, bytes, our_marks, ours.n, our_needed, sizeof our_needed,
+                             sent_query, ROOM);
+}
+
+static recon_answer_t answer_theirs(size_t bytes, size_t length) {
+    if (bytes == 0)
+        return recon_answer(theirs.times, theirs.n, theirs.ids, 32 * theirs.n, 16, 64, sent_query, length, sent_reply, ROOM);
+    return recon_answer_within(theirs.times, theirs.n, theirs.ids, 32 * theirs.n, 16, 64, bytes, sent_query, length, sent_reply, ROOM);
+}
+
+static recon_session_answer take_ours(size_t bytes, size_t length, recon_session s) {
+    if (bytes == 0)
+        return recon_take(ours.times, ours.n, ours.ids, 32 * ours.n, 16, 64, sent_reply, length, s, our_marks, ours.n, our_needed,
+                          sizeof our_needed, sent_query, ROOM);
+    return recon_take_within(ours.times, ours.n, ours.ids, 32 * ours.n, 16, 64, bytes, sent_reply, length, s, our_marks, ours.n, our_needed,
+                             sizeof our_needed, sent_query, ROOM);
+}
+
+/* The limits of each end, for three of its calls in turn, 0 for none. */
+typedef struct {
+    size_t ours[3], theirs[3];
+} byte_limits;
+
+/* The longest messages of a session, and how many takes it had. */
+typedef struct {
+    size_t query, reply, takes;
+} course;
+
+static size_t larger(size_t a, size_t b) { return a > b ? a : b; }
+
+static course run_session(byte_limits l) {
+    course c = {0, 0, 0};
+    recon_session_answer sent = open_ours(l.ours[0]);
+    expect("a session is opened", sent.refusal == RECON_OK);
+    while (!sent.session.done) {
+        const size_t our_bytes = l.ours[(c.takes + 1) % 3], their_bytes = l.theirs[c.takes % 3];
+        c.query = larger(c.query, sent.length);
+        const recon_answer_t reply = answer_theirs(their_bytes, sent.length);
+        expect("a query is answered within the limit", reply.refusal == RECON_OK && (their_bytes == 0 || reply.length <= their_bytes));
+        c.reply = larger(c.reply, reply.length);
+        sent = take_ours(our_bytes, reply.length, sent.session);
+        expect("a reply is taken within the limit", sent.refusal == RECON_OK && (our_bytes == 0 || sent.length <= our_bytes));
+        expect("reports are right", reported_rightly(sent.session));
+        expect("the session ends", ++c.takes < RECORDS);
+    }
+    expect("a query is written until the session is done", sent.length == 0);
+    return c;
+}
+
+/* Whole sessions. 64 * 16^2 is at least our items, so that without limits three takes are enough. */
+static void sessions_within(void) {
+    fill(&ours, we_have);
+    fill(&theirs, they_have);
+    const course plain = run_session((byte_limits){{0, 0, 0}, {0, 0, 0}});
+    expect("without limits", plain.takes <= 3 && plain.query > 4096 && plain.reply > 4096);
+    const course wide = run_session((byte_limits){{plain.query, ROOM, SIZE_MAX}, {plain.reply, ROOM, SIZE_MAX}});
+    expect("limits that are not met", wide.takes == plain.takes && wide.query == plain.query && wide.reply == plain.reply);
+    const course both = run_session((byte_limits){{4096, 4096, 4096}, {4096, 4096, 4096}});
+    expect("limits at both ends", both.takes > 3);
+    const course opener = run_session((byte_limits){{4096, 4096, 4096}, {0, 0, 0}});
+    expect("a limit of the opener", opener.takes > 3 && opener.query <= 4096 && opener.reply > 4096);
+    const course responder = run_session((byte_limits){{0, 0, 0}, {4096, 4096, 4096}});
+    expect("a limit of the responder", responder.takes > 3 && responder.query > 4096 && responder.reply <= 4096);
+    const course changing = run_session((byte_limits){{4096, 0, 6000}, {0, 5000, 4096}});
+    expect("limits that change", changing.takes > 3);
+}
+
+/* The refusal of an answer about a table of n items, with so many bytes of ids, or by this cut, or by this byte limit. */
 static uint64_t by_size(const uint64_t *t, size_t n, const uint8_t *i, size_t id_bytes) {
     uint8_t out[16];
     return recon_fingerprint(t, n, i, id_bytes, true, 0, nothing, 0, true, 0, nothing, 0, out);
@@ -435,6 +878,12 @@ static uint64_t by_cut(size_t parts, size_t limit) {
     const uint8_t query[1] = {0x61};
     uint8_t out[16];
     return recon_answer(times, 3, ids, 96, parts, limit, query, 1, out, 16).refusal;
+}
+
+static uint64_t by_bytes(size_t bytes) {
+    const uint8_t query[1] = {0x61};
+    uint8_t out[16];
+    return answered(bytes, query, 1, out, 16).refusal;
 }
 
 /* The constants are the limits that the library has. */
@@ -455,6 +904,7 @@ static void limits(void) {
     expect("the fewest parts", by_cut(RECON_MIN_PARTS, RECON_MIN_PARTS) == RECON_OK && by_cut(RECON_MIN_PARTS - 1, 64) == RECON_CUT_LIMITS);
     expect("the most parts", by_cut(RECON_MAX_PARTS, RECON_MAX_PARTS) == RECON_OK && by_cut(RECON_MAX_PARTS + 1, 65) == RECON_CUT_LIMITS);
     expect("the largest list limit", by_cut(2, RECON_MAX_LIMIT) == RECON_OK && by_cut(2, RECON_MAX_LIMIT + 1) == RECON_CUT_LIMITS);
+    expect("the least byte limit", by_bytes(RECON_MIN_BYTE_LIMIT) == RECON_OK && by_bytes(RECON_MIN_BYTE_LIMIT - 1) == RECON_BYTE_LIMIT);
     expect("the default cut", by_cut(RECON_DEFAULT_PARTS, RECON_DEFAULT_LIMIT) == RECON_OK);
     memset(digest, OLD, sizeof digest);
     memset(fingerprint, OLD, sizeof fingerprint);
@@ -510,6 +960,13 @@ int main(void) {
     two_ranges();
     reports();
     versions();
+    cut_list();
+    cut_runs();
+    skips_as_one();
+    cut_lists();
+    limit_refusals();
+    done_within();
+    sessions_within();
     fingerprints();
     tree_bytes();
     tree_lengths();

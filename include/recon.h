@@ -170,12 +170,12 @@ recon_session_answer recon_take(const uint64_t *times, size_t times_len, const u
 /* Byte limits. The three calls once more, with the most bytes that the message written may have, the byte 0x61 included. A message that would
    exceed its limit is cut short: of its ranges the longest run from the start is kept that fits together with one last range, the fingerprint of
    the own items from the run's end to infinity. An ids range that does not fit whole is cut after the most ids that fit; if not one fits, the run
-   ends before it. That range stands for all that was left out, which later rounds bring where it differs.
+   ends before it. The last range stands for all that was left out; the two ends compare it, and later rounds bring what differs.
    Every call is given its own limit: calls with different limits, and without one, may stand in one session, at either end. Reports are as true,
-   and once the session is done as complete, as without limits; it takes more rounds where a message was cut short.
+   and once the session is done as complete, as without limits; it may take more rounds where a message was cut short.
    Checks and answers are those of the call without a limit, and bytes below RECON_MIN_BYTE_LIMIT, 0 too, is refused by 14, right after 3. The out
    buffer may have fewer than `bytes` bytes and never needs more. Its length cuts nothing short: where the message, within its limit, is longer than
-   out, the call is refused by 12. */
+   out, the call is refused by 12. With out_len as the limit no call is, so that RECON_MIN_BYTE_LIMIT bytes are enough for every message. */
 
 /* Opens a session, as recon_open does, with a query of at most `bytes` bytes.
    Refuses by 1 to 3, 14, 4 and 12, in this order. */

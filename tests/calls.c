@@ -797,18 +797,21 @@ static int reported_rightly(recon_session s) {
     return item == ours.n && marked == s.marked && needed == s.needed;
 }
 
-/* The calls of the two ends, with a byte limit or, where that is 0, without one. */
+/* The calls of the two ends, with a byte limit or, where that is 0, without one. A message has as many bytes of room as its limit. */
+static size_t room_for(size_t bytes) { return bytes < ROOM ? bytes : ROOM; }
+
 static recon_session_answer open_ours(size_t bytes) {
     if (bytes == 0)
         return recon_open(ours.times, ours.n, ours.ids, 32 * ours.n, 16, 64, our_marks, ours.n, our_needed, sizeof our_needed, sent_query, ROOM);
     return recon_open_within(ours.times, ours.n, ours.ids, 32 * ours.n, 16, 64, bytes, our_marks, ours.n, our_needed, sizeof our_needed,
-                             sent_query, ROOM);
+                             sent_query, room_for(bytes));
 }
 
 static recon_answer_t answer_theirs(size_t bytes, size_t length) {
     if (bytes == 0)
         return recon_answer(theirs.times, theirs.n, theirs.ids, 32 * theirs.n, 16, 64, sent_query, length, sent_reply, ROOM);
-    return recon_answer_within(theirs.times, theirs.n, theirs.ids, 32 * theirs.n, 16, 64, bytes, sent_query, length, sent_reply, ROOM);
+    return recon_answer_within(theirs.times, theirs.n, theirs.ids, 32 * theirs.n, 16, 64, bytes, sent_query, length, sent_reply,
+                               room_for(bytes));
 }
 
 static recon_session_answer take_ours(size_t bytes, size_t length, recon_session s) {
@@ -816,7 +819,7 @@ static recon_session_answer take_ours(size_t bytes, size_t length, recon_session
         return recon_take(ours.times, ours.n, ours.ids, 32 * ours.n, 16, 64, sent_reply, length, s, our_marks, ours.n, our_needed,
                           sizeof our_needed, sent_query, ROOM);
     return recon_take_within(ours.times, ours.n, ours.ids, 32 * ours.n, 16, 64, bytes, sent_reply, length, s, our_marks, ours.n, our_needed,
-                             sizeof our_needed, sent_query, ROOM);
+                             sizeof our_needed, sent_query, room_for(bytes));
 }
 
 /* The limits of each end, for three of its calls in turn, 0 for none. */

@@ -134,24 +134,6 @@ static void measure(input *in, double best[WAYS]) {
     }
 }
 
-static uint64_t next(void) {
-    static uint64_t x = 88172645463325252u;
-    x ^= x << 13;
-    x ^= x >> 7;
-    x ^= x << 17;
-    return x;
-}
-
-static void fill(input *in) {
-    for (size_t i = 0; i < MOST; i++) {
-        in->times[i] = 1700000000 + 1000 * i + next() % 1000;
-        for (size_t j = 0; j < 32; j += 8) {
-            uint64_t word = next();
-            memcpy(in->ids + 32 * i + j, &word, 8);
-        }
-    }
-}
-
 /* The first n items, and runs between two places that are any of 0 to n alike. */
 static void choose(input *in, size_t n) {
     in->n = n;
@@ -198,7 +180,7 @@ int main(int count, char **arguments) {
     const size_t most_bytes = recon_tree_bytes(MOST);
     input in = {.times = malloc(8 * MOST), .ids = malloc(32 * MOST), .proved = malloc(most_bytes), .plain = malloc(most_bytes)};
     must(in.times && in.ids && in.proved && in.plain);
-    fill(&in);
+    fill(in.times, in.ids, MOST);
     printf("| items | build | / plain C | append | / plain C | label of a run | / plain C | run summed in plain C | summed / label |\n"
            "|---|---|---|---|---|---|---|---|---|\n");
     for (size_t i = 0; i < sizeof sizes / sizeof *sizes; i++) {

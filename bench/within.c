@@ -66,6 +66,11 @@ static void measure(const char *name, table t, const message *query, uint8_t *wh
 
 static void put(message *m, uint64_t byte) { m->bytes[m->length++] = (uint8_t)byte; }
 
+static void begin(message *m) {
+    m->length = 0;
+    put(m, 0x61);
+}
+
 static void put_varint(message *m, uint64_t value) {
     int shift = 0;
     while (value >> shift >= 128)
@@ -78,8 +83,7 @@ static void put_varint(message *m, uint64_t value) {
 /* A query of so many ranges with as many items each, and fingerprints that differ. */
 static void put_fingerprints(message *m, table t, size_t ranges) {
     uint64_t before = 0;
-    m->length = 0;
-    put(m, 0x61);
+    begin(m);
     for (size_t r = 1; r <= ranges; r++) {
         const uint64_t time = r < ranges ? t.times[r * (ITEMS / ranges)] : 0;
         put_varint(m, r < ranges ? time - before + 1 : 0);
@@ -91,15 +95,25 @@ static void put_fingerprints(message *m, table t, size_t ranges) {
     }
 }
 
+/* A query that lists no ids, of all items or, where their number is not 0, of the first ones; the others are skipped. */
+static void put_no_ids(message *m, table t, size_t items) {
+    begin(m);
+    put_varint(m, items > 0 ? t.times[items] + 1 : 0);
+    put(m, 0);
+    put(m, 2);
+    put(m, 0);
+}
+
 int main(void) {
     uint64_t *times = malloc(8 * (size_t)ITEMS);
     uint8_t *ids = malloc(32 * (size_t)ITEMS), *whole = malloc(ROOM), *out = malloc(ROOM);
     must(times && ids && whole && out);
     fill(times, ids, ITEMS);
     const table t = {times, ids};
-    static message query = {{0x61}, 1};
+    static message query;
     printf("| query | bytes of the answer | time | within 65,536 bytes | time | ratio | within 4,096 bytes | time | ratio |\n"
            "|---|---|---|---|---|---|---|---|---|\n");
+    begin(&query);
     measure("nothing", t, &query, whole, out);
     put_fingerprints(&query, t, 1);
     measure("1 fingerprint", t, &query, whole, out);
@@ -107,8 +121,10 @@ int main(void) {
     measure("64 fingerprints", t, &query, whole, out);
     put_fingerprints(&query, t, MOST_RANGES);
     measure("4,096 fingerprints", t, &query, whole, out);
-    query = (message){{0x61, 0, 0, 2, 0}, 5};
+    put_no_ids(&query, t, 0);
     measure("a list of no ids", t, &query, whole, out);
+    put_no_ids(&query, t, 1024);
+    measure("a list of no ids, below item 1,024", t, &query, whole, out);
     free(times);
     free(ids);
     free(whole);

@@ -8,6 +8,7 @@ use label::Label;
 use message::Payload;
 use message::Range;
 use writer::varint::Written;
+use writer::write::Pass;
 use writer::write::Write;
 use writer::write::Writer;
 ghost use mathlib.Core.Path.{_≡_};
@@ -23,7 +24,7 @@ ghost use Rattle.theory.specs.Cutting.{split};
 ghost use Rattle.theory.specs.Standard.{sizes};
 ghost use Rattle.writer.specs.Private.{Lawful};
 ghost use Rattle.writer.specs.Stream.{before};
-ghost use Rattle.writer.specs.Handover.{after, HandsOver};
+ghost use Rattle.writer.specs.Handover.{writes, bufferOf, after, HandsOver};
 ghost use Rattle.table.specs.Table.{idsOf, items};
 ghost use Rattle.table.specs.Code.{lent};
 ghost use Rattle.table.specs.Private.{Passed, itemAt};
@@ -35,13 +36,13 @@ ghost use Rattle.cutting.specs.Private.{run, ownIn, upperOf, Inside};
 pub fn put_ids(
     writer: Writer,
     out: &mut [u8],
-    writing: bool,
+    pass: Pass,
     times: &[u64],
     own: &[u8],
     span: Span,
 ) -> Write
     requires { ⌜ Passed (lent (now times) (now own)) × Inside (lent (now times) (now own)) span ⌝ }
-    ensures { λ r. ⌜ HandsOver writing (range (upperOf span) (ids (idsOf (ownIn (lent (now (times .entry)) (now (own .entry))) span))) ∷ []) (before writer (now (out .entry))) (after r (now (out .exit))) ⌝ }
+    ensures { λ r. ⌜ HandsOver (writes pass) (range (upperOf span) (ids (idsOf (ownIn (lent (now (times .entry)) (now (own .entry))) span))) ∷ []) (before writer (bufferOf pass (now (out .entry)))) (after r (bufferOf pass (now (out .exit)))) ⌝ }
 {
     let bound = span.bound;
     let prefix = span.prefix;
@@ -53,24 +54,24 @@ pub fn put_ids(
             at: span.lo * 32,
         },
     };
-    writer.put(out, writing, range, own)
+    writer.put(out, pass, range, own)
 }
 
 // The fingerprint of the items whose ids these are. Of one that is only measured the size alone counts, so none is computed.
-fn fingerprint_bytes(writing: bool, ids: &[u8]) -> [u8; 16]
-    ensures { λ r. ⌜ (writing ≡ true → r ≡ labels.fingerprint (labels.labelOf (wholeIds (now (ids .entry))))) ⌝ }
+fn fingerprint_bytes(pass: Pass, ids: &[u8]) -> [u8; 16]
+    ensures { λ r. ⌜ (writes pass ≡ true → r ≡ labels.fingerprint (labels.labelOf (wholeIds (now (ids .entry))))) ⌝ }
 {
-    if writing {
-        return Label::of_ids(ids).fingerprint();
+    match pass {
+        Pass::Measure { size: _ } => [0u8; 16],
+        Pass::Write => Label::of_ids(ids).fingerprint(),
     }
-    [0u8; 16]
 }
 
 // One range with the fingerprint of the items from place `at` up to place `end`.
-fn put_fingerprint(
+pub fn put_fingerprint(
     writer: Writer,
     out: &mut [u8],
-    writing: bool,
+    pass: Pass,
     times: &[u64],
     own: &[u8],
     at: usize,
@@ -78,11 +79,11 @@ fn put_fingerprint(
     upper: Placed,
 ) -> Write
     requires { ⌜ Passed (lent (now times) (now own)) × (at ≤ end) × (end ≤ length (now times)) × Lawful (upper .bound) ⌝ }
-    ensures { λ r. ⌜ HandsOver writing (range (boundOf (upper .bound) (upper .prefix)) (fingerprint (spec.fingerprintOf (run (lent (now (times .entry)) (now (own .entry))) at end))) ∷ []) (before writer (now (out .entry))) (after r (now (out .exit))) ⌝ }
+    ensures { λ r. ⌜ HandsOver (writes pass) (range (boundOf (upper .bound) (upper .prefix)) (fingerprint (spec.fingerprintOf (run (lent (now (times .entry)) (now (own .entry))) at end))) ∷ []) (before writer (bufferOf pass (now (out .entry)))) (after r (bufferOf pass (now (out .exit)))) ⌝ }
 {
     let first = at * 32;
     let last = end * 32;
-    let source = fingerprint_bytes(writing, &own[first..last]);
+    let source = fingerprint_bytes(pass, &own[first..last]);
     let bound = upper.bound;
     let prefix = upper.prefix;
     let range = Range {
@@ -90,7 +91,7 @@ fn put_fingerprint(
         prefix,
         payload: Payload::Fingerprint { at: 0 },
     };
-    writer.put(out, writing, range, &source)
+    writer.put(out, pass, range, &source)
 }
 
 // The upper bound of the part that ends at the place `end`: the shortest between neighbours, and at the end of the span its own.
@@ -110,14 +111,14 @@ fn upper_at(times: &[u64], own: &[u8], span: Span, end: usize) -> Placed
 fn put_parts(
     writer: Writer,
     out: &mut [u8],
-    writing: bool,
+    pass: Pass,
     times: &[u64],
     own: &[u8],
     parts: usize,
     span: Span,
 ) -> Write
     requires { ⌜ Passed (lent (now times) (now own)) × Inside (lent (now times) (now own)) span × (0 < parts) × (parts ≤ span .hi - span .lo) ⌝ }
-    ensures { λ r. ⌜ HandsOver writing (spec.fingerprintRanges (split (sizes parts (span .hi - span .lo)) (ownIn (lent (now (times .entry)) (now (own .entry))) span)) (upperOf span)) (before writer (now (out .entry))) (after r (now (out .exit))) ⌝ }
+    ensures { λ r. ⌜ HandsOver (writes pass) (spec.fingerprintRanges (split (sizes parts (span .hi - span .lo)) (ownIn (lent (now (times .entry)) (now (own .entry))) span)) (upperOf span)) (before writer (bufferOf pass (now (out .entry)))) (after r (bufferOf pass (now (out .exit)))) ⌝ }
 {
     let count = span.hi - span.lo;
     let mut answer = Write {
@@ -130,7 +131,7 @@ fn put_parts(
         let end = at + part_size(parts, count, i);
         let upper = upper_at(times, own, span, end);
         let next = answer.next;
-        answer = put_fingerprint(next, out, writing, times, own, at, end, upper);
+        answer = put_fingerprint(next, out, pass, times, own, at, end, upper);
         let written = answer.written;
         match written {
             Written::Refused { refusal: _ } => {
@@ -149,17 +150,17 @@ fn put_parts(
 pub fn put_cut(
     writer: Writer,
     out: &mut [u8],
-    writing: bool,
+    pass: Pass,
     times: &[u64],
     own: &[u8],
     cut: Cut,
     span: Span,
 ) -> Write
     requires { ⌜ Passed (lent (now times) (now own)) × Inside (lent (now times) (now own)) span × (spec.outsideLimits (cutOf cut) ≡ false) ⌝ }
-    ensures { λ r. ⌜ HandsOver writing (spec.cut (cutOf cut) (ownIn (lent (now (times .entry)) (now (own .entry))) span) (upperOf span)) (before writer (now (out .entry))) (after r (now (out .exit))) ⌝ }
+    ensures { λ r. ⌜ HandsOver (writes pass) (spec.cut (cutOf cut) (ownIn (lent (now (times .entry)) (now (own .entry))) span) (upperOf span)) (before writer (bufferOf pass (now (out .entry)))) (after r (bufferOf pass (now (out .exit)))) ⌝ }
 {
     if span.hi - span.lo <= cut.limit {
-        return put_ids(writer, out, writing, times, own, span);
+        return put_ids(writer, out, pass, times, own, span);
     }
-    put_parts(writer, out, writing, times, own, cut.parts, span)
+    put_parts(writer, out, pass, times, own, cut.parts, span)
 }

@@ -6,18 +6,8 @@ use mathlib.Core.List.{List, [], _∷_, _++_, append-nil, append-assoc}
 use Rattle.message.specs.Bound.{Bound, start}
 use Rattle.message.specs.Message.{Range, upper, spellRange, spellRanges, spellMessage}
 use Rattle.message.specs.Meaning.{isSkip, prepend, tidy, writeMessage}
+use Rattle.message.specs.Private.{waiting, lastUpper}
 use Rattle.message.proofs.Exact.{differ, byTest}
-
--- the final skip, if there is one: `tidy` leaves it off
-unfoldable pub waiting : List Range → List Range
-waiting [] = []
-waiting (r ∷ []) = cond (isSkip r) (r ∷ []) []
-waiting (r ∷ s ∷ rs) = waiting (s ∷ rs)
-
--- the last upper bound
-unfoldable pub lastUpper : Bound → List Range → Bound
-lastUpper lower [] = lower
-lastUpper lower (r ∷ rs) = lastUpper (upper r) rs
 
 pub tidy-skip : (rs : List Range) (x : Range) → isSkip x ≡ true → tidy (rs ++ (x ∷ [])) ≡ tidy rs
 unfolding tidy

@@ -6,6 +6,7 @@
 -- WellFormed   the ranges that a message can carry
 -- Meaning      the payload at each position, and the form that is written
 -- Code         what the values of the code's types mean
+-- Private      for contracts of functions that only our own crates call
 pub mod Reader
 pub mod Varint
 pub mod Bound
@@ -13,3 +14,4 @@ pub mod Message
 pub mod WellFormed
 pub mod Meaning
 pub mod Code
+pub mod Private

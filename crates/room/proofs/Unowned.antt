@@ -13,8 +13,8 @@ use Rattle.message.proofs.Exact.{byTest}
 use Rattle.message.proofs.Forms.{ids-count}
 use Rattle.reader.specs.Private.{rangesAt}
 use Rattle.table.specs.Table.{Table, items}
+use Rattle.cutting.proofs.Projection.{keep-length}
 use Rattle.ends.specs.Opener.{insert, neededAfter}
-use Rattle.ends.proofs.Messages.{keep-length}
 use Rattle.walk.specs.Walking.{starts, Stepped}
 use Rattle.walk.specs.declared.Walk.{Walk}
 use Rattle.walk.specs.declared.Step.{Step}

@@ -25,12 +25,12 @@ use Rattle.table.specs.Private.{Passed}
 use Rattle.table.proofs.Items.{right-size, ids-run}
 use Rattle.cutting.specs.Private.{ownIn, upperOf, Inside}
 use Rattle.cutting.specs.declared.Span.{Span}
+use Rattle.cutting.proofs.Projection.{keep-length}
 use Rattle.ends.specs.Lists.{some, same}
 use Rattle.ends.specs.Calls.{eachRange}
 use Rattle.ends.specs.Opener.{unowned, insert, neededAfter}
 use Rattle.ends.proofs.Lists.{flatten-length}
 use Rattle.ends.proofs.Tables.{same-true}
-use Rattle.ends.proofs.Messages.{keep-length}
 use Rattle.ends.proofs.Reports.{unowned-sized}
 use Rattle.walk.specs.Walking.{starts, Walking, Stepped}
 use Rattle.walk.specs.declared.Walk.{Walk}

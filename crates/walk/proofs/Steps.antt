@@ -7,7 +7,7 @@ use lib.ListN.{length}
 use borrow.Author.Tests.{le-ltb}
 use Rattle.message.specs.Reader.{read}
 use Rattle.message.specs.Bound as B
-use Rattle.message.specs.Bound.{bigEndian, idSpace, key, start}
+use Rattle.message.specs.Bound.{start}
 use Rattle.message.specs.Message.{Range, readMessage}
 use Rattle.message.specs.WellFormed.{Bytes, LawfulBound}
 use Rattle.message.specs.Code.{boundOf, lengthOf}
@@ -26,6 +26,7 @@ use Rattle.table.specs.Lists.{keep}
 use Rattle.table.specs.Table.{Item, keyOf, Table, items}
 use Rattle.table.specs.Private.{Passed, placeOf}
 use Rattle.table.proofs.Places.{places-rise, within-is}
+use Rattle.cutting.proofs.Projection.{key-start}
 use Rattle.walk.specs.Walking.{starts, Walking, Stepped}
 use Rattle.walk.specs.declared.Walk.{Walk}
 use Rattle.walk.specs.declared.Step.{Step}
@@ -85,10 +86,6 @@ lower-starts = ap lowerAt cursor-starts ∙ stepping.lower-starts
 lo-starts : starts .lo ≡ 0
 unfolding starts
 lo-starts = refl
-
-key-start : key start ≡ 0
-unfolding key bigEndian idSpace
-key-start = refl
 
 -- no item lies below it
 none-before : (is : List Item) → 0 ≡ placeOf start is

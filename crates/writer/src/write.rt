@@ -19,6 +19,7 @@ ghost use lib.ListN.{length};
 ghost use Rattle.message.specs.Code.{rangeOf};
 ghost use Rattle.writer.specs.Writing.{taken, verdictOf, judge, room, lay, started, pendingBytes, moreBytes, boundsFit, verdict, moved, next, outAfter};
 ghost use Rattle.writer.specs.Private.{skips, Lawful, Inside};
+ghost use Rattle.writer.specs.Handover.{isTaken, writes, bufferOf};
 
 // The place behind the bytes already written, the bound handed over last, whether it is that of a skip not written yet, and then the time
 // of the last bound that was written.
@@ -30,10 +31,29 @@ pub struct Writer {
     pub prefix: [u8; 32],
 }
 
+// A pass over the ranges of a message: they are measured, for a message of at most `size` bytes, or written.
+pub enum Pass {
+    Measure { size: usize },
+    Write,
+}
+
 // The answer, and the writer afterwards.
 pub struct Write {
     pub written: Written,
     pub next: Writer,
+}
+
+impl Write {
+    // Whether the range was taken.
+    pub fn is_taken(self) -> bool
+        ensures { λ r. ⌜ r ≡ isTaken (verdictOf (self .written)) ⌝ }
+    {
+        let written = self.written;
+        match written {
+            Written::Taken => true,
+            Written::Refused { refusal: _ } => false,
+        }
+    }
 }
 
 // Whether a payload is a skip.
@@ -267,15 +287,15 @@ impl Writer {
         }
     }
 
-    // One range more, where `writing` says so: otherwise it is only measured, with the same answer.
-    pub fn put(self, out: &mut [u8], writing: bool, range: Range, source: &[u8]) -> Write
-        ensures { λ r. ⌜ verdictOf (r .written) ≡ verdict (length (now (out .entry))) self range (now (source .entry)) ⌝ }
-        ensures { λ r. ⌜ r .next ≡ next (length (now (out .entry))) self range (now (source .entry)) ⌝ }
-        ensures { λ _. ⌜ now (out .exit) ≡ cond writing (outAfter self range (now (source .entry)) (now (out .entry))) (now (out .entry)) ⌝ }
+    // One range more, written or measured. Where it is measured, the out buffer plays no part.
+    pub fn put(self, out: &mut [u8], pass: Pass, range: Range, source: &[u8]) -> Write
+        ensures { λ r. ⌜ verdictOf (r .written) ≡ verdict (length (bufferOf pass (now (out .entry)))) self range (now (source .entry)) ⌝ }
+        ensures { λ r. ⌜ r .next ≡ next (length (bufferOf pass (now (out .entry)))) self range (now (source .entry)) ⌝ }
+        ensures { λ _. ⌜ bufferOf pass (now (out .exit)) ≡ cond (writes pass) (outAfter self range (now (source .entry)) (bufferOf pass (now (out .entry)))) (bufferOf pass (now (out .entry))) ⌝ }
     {
-        if writing {
-            return self.write(out, range, source);
+        match pass {
+            Pass::Measure { size } => self.measure(size, range, source),
+            Pass::Write => self.write(out, range, source),
         }
-        self.measure(out.len(), range, source)
     }
 }

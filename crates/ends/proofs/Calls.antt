@@ -8,16 +8,16 @@ use lib.ListN.{length, take}
 use Rattle.message.specs.Reader.{Outcome, read}
 use Rattle.message.specs.Reader as Reader
 use Rattle.message.specs.Message.{Range, readMessage}
-use Rattle.message.specs.Meaning.{writeMessage}
 use Rattle.message.proofs.Exact.{byTest, differ}
 use Rattle.theory.specs.Rounds.{Cut}
 use Rattle.theory.proofs.Tests.{clash}
 use Rattle.table.specs.Answer.{Answer, answer, refused, refuseIf}
 use Rattle.table.specs.Table.{Table, items, wrongSize, notRising, judgeTable}
 use Rattle.cutting.specs.Cutting.{outsideLimits, judgeCut}
+use Rattle.limit.specs.Limit.{Limit, belowLeast, judgeLimit, sentMessage}
 use Rattle.ends.specs.Calls.{result, onceRead, reading}
-use Rattle.ends.specs.Responder.{reply, otherVersion, answered}
-use Rattle.ends.specs.Opener.{Lent, neededIds, capacity, wrongBuffers, wrongContents, firstQuery, openingLeaves, begin, opened, nextQuery, skipsOnly, written, marksAfter, neededAfter, conclude, taken}
+use Rattle.ends.specs.Responder.{reply, otherVersion, answeredWithin}
+use Rattle.ends.specs.Opener.{Lent, neededIds, capacity, wrongBuffers, wrongContents, firstQuery, openingLeaves, begin, openedWithin, nextQuery, skipsOnly, written, marksAfter, neededAfter, conclude, takenWithin}
 use Rattle.ends.proofs.Lists.{overwrite-front}
 use Rattle.ends.proofs.Relations.{leaves}
 
@@ -65,6 +65,14 @@ checked T c next e =
     let l = passed 3 (outsideLimits c) next (o .1) in
     (record { size = s .0; order = o .0; limits = l .0 }, l .1)
 
+-- and 14
+checked-within : {X : Type 0} (limit : Limit) (T : Table) (c : Cut) (next : Answer X) {x : X} → judgeTable T (judgeCut c (judgeLimit limit next)) ≡ answer x
+    → Checked T c × (belowLeast limit ≡ false) × (next ≡ answer x)
+checked-within limit T c next e =
+    let w = checked T c _ e in
+    let z = passed 14 (belowLeast limit) next (w .1) in
+    (w .0, z .0, z .1)
+
 -- the two parts of what a call left
 both : {L : Type 0} {n n′ : ℕ} {l l′ : L} → _≡_ {A = Answer (ℕ × L)} (answer (n, l)) (answer (n′, l′)) → (n ≡ n′) × (l′ ≡ l)
 both {L} {n} {n′} {l} {l′} e =
@@ -73,67 +81,75 @@ both {L} {n} {n′} {l} {l′} e =
 
 -- ---- Answer
 
-pub record Answered (T : Table) (c : Cut) (query out : List ℕ) (n : ℕ) : Type 0 where
+pub record Answered (limit : Limit) (T : Table) (c : Cut) (query out : List ℕ) (n : ℕ) : Type 0 where
   pub checks : Checked T c
+  pub least : belowLeast limit ≡ false
   pub ranges : List Range
   pub rest : List ℕ
   pub says : readMessage query ≡ read ranges rest
-  pub wrote : take n (answered T c query out .lent) ≡ writeMessage (reply c (items T) ranges)
+  pub wrote : take n (answeredWithin limit T c query out .lent) ≡ sentMessage limit (items T) (reply c (items T) ranges)
 
-pub answer-checks : (T : Table) (c : Cut) (query out : List ℕ) (n : ℕ) → answered T c query out .answer ≡ answer n → Checked T c
-unfolding answered
-answer-checks T c query out n e = checked T c _ (unrefused-result out _ n e) .0
+pub answer-checks : (limit : Limit) (T : Table) (c : Cut) (query out : List ℕ) (n : ℕ) → answeredWithin limit T c query out .answer ≡ answer n → Checked T c
+unfolding answeredWithin
+answer-checks limit T c query out n e = checked-within limit T c _ (unrefused-result out _ n e) .0
 
 -- a query that offers no other version
-pub unrefused-answer : (T : Table) (c : Cut) (query out : List ℕ) (n : ℕ) → otherVersion query ≡ false → answered T c query out .answer ≡ answer n → Answered T c query out n
-unfolding answered
-unrefused-answer T c query out n own e =
-    let w = checked T c _ (unrefused-result out _ n e) in
-    let r = was-read (readMessage query) _ (not-so (otherVersion query) _ _ own (w .1)) in
-    let m = writeMessage (reply c (items T) (r .0)) in
+pub unrefused-answer : (limit : Limit) (T : Table) (c : Cut) (query out : List ℕ) (n : ℕ) → otherVersion query ≡ false
+    → answeredWithin limit T c query out .answer ≡ answer n
+    → Answered limit T c query out n
+unfolding answeredWithin
+unrefused-answer limit T c query out n own e =
+    let w = checked-within limit T c _ (unrefused-result out _ n e) in
+    let r = was-read (readMessage query) _ (not-so (otherVersion query) _ _ own (w .2)) in
+    let m = sentMessage limit (items T) (reply c (items T) (r .0)) in
     let z = both (passed 12 (ltb (length out) (length m)) _ (r .3) .1) in
-    record { checks = w .0; ranges = r .0; rest = r .1; says = r .2; wrote = ap (take n) (z .1) ∙ overwrite-front m out n (z .0) }
+    record { checks = w .0; least = w .1; ranges = r .0; rest = r .1; says = r .2; wrote = ap (take n) (z .1) ∙ overwrite-front m out n (z .0) }
 
 -- ---- Open
 
-pub record Opened (T : Table) (c : Cut) (l : Lent) (n : ℕ) : Type 0 where
+pub record Opened (limit : Limit) (T : Table) (c : Cut) (l : Lent) (n : ℕ) : Type 0 where
   pub checks : Checked T c
-  pub size : length (writeMessage (firstQuery c (items T))) ≡ n
-  pub left : opened T c l .lent ≡ openingLeaves T (writeMessage (firstQuery c (items T))) l
+  pub least : belowLeast limit ≡ false
+  pub size : length (sentMessage limit (items T) (firstQuery c (items T))) ≡ n
+  pub left : openedWithin limit T c l .lent ≡ openingLeaves T (sentMessage limit (items T) (firstQuery c (items T))) l
 
-pub unrefused-opening : (T : Table) (c : Cut) (l : Lent) (n : ℕ) → opened T c l .answer ≡ answer n → Opened T c l n
-unfolding opened begin
-unrefused-opening T c l n e =
-    let w = checked T c _ (unrefused-result l _ n e) in
-    let u = passed 4 (wrongBuffers T l) _ (w .1) in
-    let z = both (passed 12 (ltb (length (l .out)) (length (writeMessage (firstQuery c (items T))))) _ (u .1) .1) in
-    record { checks = w .0; size = z .0; left = z .1 }
+pub unrefused-opening : (limit : Limit) (T : Table) (c : Cut) (l : Lent) (n : ℕ) → openedWithin limit T c l .answer ≡ answer n → Opened limit T c l n
+unfolding openedWithin begin
+unrefused-opening limit T c l n e =
+    let w = checked-within limit T c _ (unrefused-result l _ n e) in
+    let u = passed 4 (wrongBuffers T l) _ (w .2) in
+    let z = both (passed 12 (ltb (length (l .out)) (length (sentMessage limit (items T) (firstQuery c (items T))))) _ (u .1) .1) in
+    record { checks = w .0; least = w .1; size = z .0; left = z .1 }
 
 -- ---- Take
 
-pub record Taken (T : Table) (c : Cut) (m : List ℕ) (l : Lent) (n : ℕ) : Type 0 where
+pub record Taken (limit : Limit) (T : Table) (c : Cut) (m : List ℕ) (l : Lent) (n : ℕ) : Type 0 where
+  pub least : belowLeast limit ≡ false
   pub fits : (wrongBuffers T l || wrongContents l) ≡ false
   pub going : l .session .done ≡ false
   pub ranges : List Range
   pub rest : List ℕ
   pub says : readMessage m ≡ read ranges rest
-  pub size : length (written (nextQuery c (items T) ranges)) ≡ n
-  pub left : taken T c m l .lent ≡ leaves T ranges (written (nextQuery c (items T) ranges)) (skipsOnly (nextQuery c (items T) ranges)) l
+  pub size : length (written limit (items T) (nextQuery c (items T) ranges)) ≡ n
+  pub left : takenWithin limit T c m l .lent
+      ≡ leaves T ranges (written limit (items T) (nextQuery c (items T) ranges)) (skipsOnly (nextQuery c (items T) ranges)) l
 
-pub unrefused-take : (T : Table) (c : Cut) (m : List ℕ) (l : Lent) (n : ℕ) → taken T c m l .answer ≡ answer n → Taken T c m l n
-unfolding taken conclude
-unrefused-take T c m l n e =
-    let w = checked T c _ (unrefused-result l _ n e) in
-    let u = passed 4 (wrongBuffers T l || wrongContents l) _ (w .1) in
+pub unrefused-take : (limit : Limit) (T : Table) (c : Cut) (m : List ℕ) (l : Lent) (n : ℕ) → takenWithin limit T c m l .answer ≡ answer n → Taken limit T c m l n
+unfolding takenWithin conclude
+unrefused-take limit T c m l n e =
+    let w = checked-within limit T c _ (unrefused-result l _ n e) in
+    let u = passed 4 (wrongBuffers T l || wrongContents l) _ (w .2) in
     let v = passed 5 (l .session .done) _ (u .1) in
     let r = was-read (readMessage m) _ (v .1) in
     let x = passed 11 (ltb (capacity l) (length (neededAfter (items T) (r .0) (neededIds l)))) _ (r .3) in
-    let z = both (passed 12 (ltb (length (l .out)) (length (written (nextQuery c (items T) (r .0))))) _ (x .1) .1) in
-    record { fits = u .0; going = v .0; ranges = r .0; rest = r .1; says = r .2; size = z .0; left = z .1 }
+    let z = both (passed 12 (ltb (length (l .out)) (length (written limit (items T) (nextQuery c (items T) (r .0))))) _ (x .1) .1) in
+    record { least = w .1; fits = u .0; going = v .0; ranges = r .0; rest = r .1; says = r .2; size = z .0; left = z .1 }
 
-pub refused-take : (T : Table) (c : Cut) (m : List ℕ) (l : Lent) (k : ℕ) → taken T c m l .answer ≡ refused k → taken T c m l .lent ≡ l
-unfolding taken
-refused-take T c m l k e =
+pub refused-take : (limit : Limit) (T : Table) (c : Cut) (m : List ℕ) (l : Lent) (k : ℕ) → takenWithin limit T c m l .answer ≡ refused k
+    → takenWithin limit T c m l .lent ≡ l
+unfolding takenWithin
+refused-take limit T c m l k e =
     refused-result l
-    (judgeTable T (judgeCut c (refuseIf 4 (wrongBuffers T l || wrongContents l) (refuseIf 5 (l .session .done) (reading m (λ rs.
-    conclude (nextQuery c (items T) rs) (marksAfter (items T) rs (l .marks)) (neededAfter (items T) rs (neededIds l)) l)))))) k e
+    (judgeTable T (judgeCut c (judgeLimit limit (refuseIf 4 (wrongBuffers T l || wrongContents l) (refuseIf 5 (l .session .done) (reading m (λ rs.
+    let query = nextQuery c (items T) rs in
+    conclude (written limit (items T) query) (skipsOnly query) (marksAfter (items T) rs (l .marks)) (neededAfter (items T) rs (neededIds l)) l))))))) k e

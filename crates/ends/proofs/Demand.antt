@@ -10,13 +10,15 @@ use Rattle.theory.specs.Rounds.{Cut}
 use Rattle.theory.specs.Demand.{Enough}
 use Rattle.table.specs.Answer.{Answer, answer, refused}
 use Rattle.table.specs.Table.{Table, items}
+use Rattle.limit.specs.Limit.{unlimited, exceeds}
 use Rattle.ends.specs.Calls.{Result}
 use Rattle.ends.specs.Opener.{Lent, opened, taken}
 use Rattle.ends.specs.Demand.{Take, Place, one, opening, Reported, call, next, run, Answers, HandedAnswers, InRow, unrefused, Owed, Throughout, OneTime, Demand3}
 use Rattle.ends.specs.Takes as takes
 use Rattle.ends.specs.Takes.{Run, none, then-refused, then-taken, Row}
-use Rattle.ends.proofs.Tables.{Kept, kept, kept-held}
+use Rattle.ends.proofs.Tables.{Kept, kept}
 use Rattle.ends.proofs.Calls.{Checked, byChecks, answer-checks, unrefused-opening, refused-take}
+use Rattle.ends.proofs.Relations.{Begun}
 use Rattle.ends.proofs.Takes.{Lawful, Narrows, reported, owed-at, reported-never, owed-never, all-whole, row-fewer}
 use Rattle.ends.proofs.Own.{opening-begun, first-divided, answer-replied, answer-nests, take-took, take-divides}
 
@@ -85,43 +87,50 @@ module _ (A B : Table) (a b : Cut) where
   module _ (kA : Kept A a) (kB : Kept B b) where
     abbrev lawful : Lawful itself taking Answering A B a
     lawful = record {
-      refuses = λ t l k e. refused-take A a (t .reply) l k e;
-      takes = λ t l n e h w. take-took A a kA (t .reply) l n e w;
-      replies = λ t h w. answer-replied B b kB (t .query) (t .reply) (h .out) (h .size) (h .unrefused) (h .written) w;
+      refuses = λ t l k e. refused-take unlimited A a (t .reply) l k e;
+      takes = λ t l n e h w. take-took unlimited A a kA (t .reply) l n e w;
+      replies = λ t h w. answer-replied unlimited B b kB (t .query) (t .reply) (h .out) (h .size) (h .unrefused) (h .written) w;
     }
 
     narrows : (l : Lent) (n : ℕ) (e : opened A a l .answer ≡ answer n)
-        → Narrows itself taking Answering A B a lawful (opening A a l) (opening-begun A a kA l n e) (Unit {0}) Always Always
+        → Narrows itself taking Answering A B a lawful (opening A a l) (opening-begun unlimited A a kA l n e) (Unit {0}) Always Always
+    unfolding exceeds
     narrows l n e = record {
-      opens = λ u. first-divided A a kA l n e;
+      opens = λ u. first-divided unlimited A a kA l n e refl;
       replies = λ t h w u. answer-nests B b kB (t .query) (t .reply) (h .out) (h .size) (h .unrefused) (h .written) w;
-      takes = λ t l n e h w u. take-divides A a kA (t .reply) l n e w;
+      takes = λ t l n e h w u. take-divides unlimited A a kA (t .reply) l n e w (λ rs h. refl);
     }
 
   -- a responder that does not answers nothing
   never : (Checked B b → ⊥) → (t : Take) → Answering t → ⊥
-  never fails t w = fails (answer-checks B b (t .query) (w .out) (w .size) (w .unrefused))
+  never fails t w = fails (answer-checks unlimited B b (t .query) (w .out) (w .size) (w .unrefused))
 
   module _ (bytes-A : Bytes (A .ids)) (bytes-B : Bytes (B .ids)) (once : OneTime (items A ++ items B)) (lent : Lent) (n : ℕ) (e : opened A a lent .answer ≡ answer n) where
     abbrev o : Place
     o = opening A a lent
 
     kA : Kept A a
-    kA = let w = unrefused-opening A a lent n e .checks in kept A a bytes-A (w .size) (w .order) (w .limits)
+    kA = let w = unrefused-opening unlimited A a lent n e .checks in kept A a bytes-A (w .size) (w .order) (w .limits)
+
+    abbrev begun : Begun A o
+    begun = opening-begun unlimited A a kA lent n e
+
+    refuses : (t : Take) (l : Lent) (k : ℕ) → taking t l .answer ≡ refused k → taking t l .lent ≡ l
+    refuses t l k e = refused-take unlimited A a (t .reply) l k e
 
     all-owed : (L : ℕ) → Enough a (length (A .times)) L → (p : Place) (ρ : Takes o p) → OwedAt L ρ
     all-owed L enough p ρ =
         byChecks B b
         (λ c. let kB = kept B b bytes-B (c .size) (c .order) (c .limits) in
-        owed-at itself taking Answering A B a (Unit {0}) Always Always (lawful kA kB) o (opening-begun A a kA lent n e) kA (kept-held kB) once (narrows kA kB lent n e) L enough ρ)
-        (λ fails. owed-never itself taking Answering A B a (never fails) (λ t l k e. refused-take A a (t .reply) l k e) o (opening-begun A a kA lent n e) (Unit {0}) Always Always L ρ)
+        owed-at itself taking Answering A B a (Unit {0}) Always Always (lawful kA kB) o begun kA (kB .own) once (narrows kA kB lent n e) L enough ρ)
+        (λ fails. owed-never itself taking Answering A B a (never fails) refuses o begun (Unit {0}) Always Always L ρ)
 
     pub all-reported : (p : Place) → Takes o p → Reported A B p
     all-reported p ρ =
         byChecks B b
         (λ c. let kB = kept B b bytes-B (c .size) (c .order) (c .limits) in
-        reported itself taking Answering A B a (lawful kA kB) o (opening-begun A a kA lent n e) kA (kept-held kB) once ρ)
-        (λ fails. reported-never itself taking Answering A B a (never fails) (λ t l k e. refused-take A a (t .reply) l k e) o (opening-begun A a kA lent n e) ρ)
+        reported itself taking Answering A B a (lawful kA kB) o begun kA (kB .own) once ρ)
+        (λ fails. reported-never itself taking Answering A B a (never fails) refuses o begun ρ)
 
     -- at the end of a list of takes
     after-takes : {p : Place} → Takes o p → (ts : List Take) → HandedAnswers A B a b p ts → Takes o (run A B a b p ts)

@@ -1,13 +1,12 @@
 -- What finished sessions report: exactly what only one end has (`theirs-exact`, `ours-exact`), so that two of them mirror each other (`mirrored`, `whoever-opens`).
 use Prim.Native.Nat.{ℕ}
-use mathlib.Core.Path.{_≡_, refl, sym, ap, _∙_}
+use mathlib.Core.Path.{_≡_, refl, sym}
 use mathlib.Core.Bool.{true}
 use mathlib.Core.List.{List, [], _∷_, _++_, List·Memᴰ, List·Memᴰ·head, List·Memᴰ·tail, List·Memᴰ·cases-cons, Memᴰ·append-left, Memᴰ·append-right, List·Memᴰ·append-cases}
-use mathlib.Core.Logic.{_⊎_, _↔_, inl, inr, ⊎-elim}
-use Rattle.message.specs.WellFormed.{Bytes}
+use mathlib.Core.Logic.{_↔_, ⊎-elim}
 use Rattle.table.specs.Table.{Item, Table, items, idsOf}
 use Rattle.ends.specs.Demand.{Place, Only, ReportsTheirs, ReportsOurs, Reported, OneTime}
-use Rattle.ends.specs.Finished.{Finished, end, NoneCollides, WhoeverOpens}
+use Rattle.ends.specs.Finished.{end, NoneCollides, WhoeverOpens}
 use Rattle.ends.proofs.Demand.{reported-after}
 
 -- the item with an id of the table

@@ -16,11 +16,12 @@ use Rattle.table.specs.Answer.{Answer, answer, refused}
 use Rattle.table.specs.Lists.{keep, every, rising}
 use Rattle.table.specs.Table.{Item, Table, keyOf, items, wrongSize, notRising, within}
 use Rattle.cutting.specs.Cutting.{outsideLimits, cut}
+use Rattle.limit.specs.Limit.{unlimited, belowLeast, limited, sentMessage}
 use Rattle.ends.specs.Lists.{some, same, overwrite}
 use Rattle.ends.specs.Calls.{eachRange}
 use Rattle.ends.specs.Responder as responder
-use Rattle.ends.specs.Responder.{treat, otherVersion, answered}
-use Rattle.ends.specs.Opener.{Lent, wrongBuffers, wrongContents, firstQuery, openingLeaves, begin, opened, nextQuery, written, unlisted, marksAfter, unowned, insert, neededAfter, takeLeaves, conclude, taken}
+use Rattle.ends.specs.Responder.{treat, otherVersion, answeredWithin}
+use Rattle.ends.specs.Opener.{Lent, wrongBuffers, wrongContents, firstQuery, openingLeaves, begin, openedWithin, nextQuery, written, unlisted, marksAfter, unowned, insert, neededAfter, takeLeaves, conclude, takenWithin}
 use Rattle.ends.specs.Demand.{Take, Place, opening, Fingerprinted, ReportsOurs, ReportsTheirs, Reported, Answers, HandedAnswers, InRow, unrefused, Throughout, OneTime}
 use Rattle.ends.specs.Takes.{none, then-refused, then-taken}
 use Rattle.ends.specs.Finished.{end, NoneCollides}
@@ -92,7 +93,7 @@ record Met : Type 0 where
   mixed : RunHere
 
 met : Met
-unfolding readMessage readRanges readRange readBound readCoded readPrefix readPayload readOfMode readIds readVarint readDigits readBytes key bigEndian idSpace writeMessage tidy prepend isSkip spellMessage spellRanges spellRange spellBound spellPrefix spellPayload spellVarint digitsBefore flatten cut items idsIn zipWith keep every rising keyOf wrongSize notRising within outsideLimits some same overwrite eachRange treat responder.reply otherVersion answered wrongBuffers wrongContents firstQuery openingLeaves begin opened nextQuery written unlisted marksAfter unowned insert neededAfter takeLeaves conclude taken
+unfolding readMessage readRanges readRange readBound readCoded readPrefix readPayload readOfMode readIds readVarint readDigits readBytes key bigEndian idSpace writeMessage tidy prepend isSkip spellMessage spellRanges spellRange spellBound spellPrefix spellPayload spellVarint digitsBefore flatten cut items idsIn zipWith keep every rising keyOf wrongSize notRising within outsideLimits some same overwrite eachRange treat responder.reply otherVersion answeredWithin wrongBuffers wrongContents firstQuery openingLeaves begin openedWithin nextQuery written unlisted marksAfter unowned insert neededAfter takeLeaves conclude takenWithin belowLeast limited sentMessage
 met =
     let answers : Answers ours theirs two two query reply = record { out = replicate 37 0; size = 37; unrefused = refl; written = refl } in
     let answers-back : Answers theirs ours two two reply query = record { out = replicate 37 0; size = 37; unrefused = refl; written = refl } in
@@ -152,11 +153,11 @@ own-lawful = record {
   sized = λ B q r h. checks B q r h .size;
   rising = λ B q r h. checks B q r h .order;
   replied = λ B q r by h w. let c = checks B q r h in
-      answer-replied B (h .0) (kept B (h .0) by (c .size) (c .order) (c .limits)) q r (h .1 .out) (h .1 .size) (h .1 .unrefused) (h .1 .written) w;
+      answer-replied unlimited B (h .0) (kept B (h .0) by (c .size) (c .order) (c .limits)) q r (h .1 .out) (h .1 .size) (h .1 .unrefused) (h .1 .written) w;
 }
   where
     checks : (B : Table) (q r : List ℕ) (h : OwnAnswer B q r) → Checked B (h .0)
-    checks B q r h = answer-checks B (h .0) q (h .1 .out) (h .1 .size) (h .1 .unrefused)
+    checks B q r h = answer-checks unlimited B (h .0) q (h .1 .out) (h .1 .size) (h .1 .unrefused)
 
 pub run-here : RunHere
 run-here = met .mixed

@@ -12,6 +12,7 @@
 -- Takes       the theorem about lists of takes that differ in kind: `reported`, `owed-at`
 -- Own         the calls of the two ends meet the relations
 -- Demand      the theorem for takes that are all alike, `demand3`
+-- Mixed       takes and answers with byte limits, `demand3-mixed`
 -- Finished    what finished sessions report, `whoever-opens`
 -- Replies     lawful replies of any kind, `true-and-complete`
 -- Instance    all that `Demand3`, `WhoeverOpens` and `TrueAndComplete` ask for, met on bytes
@@ -31,6 +32,7 @@ pub mod Owed
 pub mod Takes
 pub mod Own
 pub mod Demand
+pub mod Mixed
 pub mod Finished
 pub mod Replies
 pub mod Instance

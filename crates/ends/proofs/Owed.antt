@@ -20,14 +20,14 @@ use Rattle.theory.specs.Demand as claim
 use Rattle.theory.proofs.Tests.{byTest, clash}
 use Rattle.theory.proofs.Messages.{fingerprint≢skip, fingerprint≢ids}
 use Rattle.table.specs.Table.{Item, keyOf, Table, items, within, idsOf}
+use Rattle.table.proofs.Items.{items-length}
 use Rattle.cutting.specs.Cutting.{fingerprintOf}
 use Rattle.cutting.proofs.Numbers.{Whole, key-id}
-use Rattle.cutting.proofs.Projection.{ids-back, items-back, protocol, payload, project, within-keys, within-whole}
+use Rattle.cutting.proofs.Projection.{ids-back, protocol, payload, project, key-start, within-keys}
+use Rattle.limit.proofs.Parts.{OwnItems, ids-whole, own-print}
 use Rattle.ends.specs.Calls.{eachRange}
 use Rattle.ends.specs.Demand.{Place, Only, ReportsTheirs, ReportsOurs, Fingerprinted, Compared, Colliding, Reported, OneTime}
-use Rattle.ends.proofs.Tables.{Held, keysOf}
-use Rattle.ends.proofs.Ranges.{key-start}
-use Rattle.ends.proofs.Messages.{ids-whole}
+use Rattle.ends.proofs.Tables.{keysOf}
 use Rattle.ends.proofs.Reports.{bit, numbers, marksOf, number-alone}
 use Rattle.ends.proofs.Lists.{all-mem, paired-back, mem-has, has-mem, ids-flatten}
 use Rattle.ends.proofs.Relations.{Means, means-reads}
@@ -50,7 +50,7 @@ same-key i j t d = rw (t, d)
 
 -- ---- tables
 
-module _ (T : Table) (k : Held T) where
+module _ (T : Table) (k : OwnItems (items T)) where
   table-ids : theory.idsOf protocol (keysOf T) ≡ numbers (idsOf (items T))
   unfolding protocol
   table-ids = ids-back (items T) (k .whole)
@@ -61,11 +61,7 @@ module _ (T : Table) (k : Held T) where
   id-mem : (d : List ℕ) → Sized 32 d → has (bigEndian 32 d) (theory.idsOf protocol (keysOf T)) ≡ true → List·Memᴰ d (idsOf (items T))
   id-mem d h e = number-mem d (idsOf (items T)) h (ids-whole (items T) (k .whole)) (rw table-ids at e)
 
-  table-fingerprint : (x y : Bound) → theory.fingerprintIn protocol (keysOf T) (key x) (key y) ≡ fingerprintOf (within x y (items T))
-  unfolding protocol
-  table-fingerprint x y = rw (← within-keys x y (items T), items-back (within x y (items T)) (within-whole x y (items T) (k .whole))) refl
-
-module _ (X Y : Table) (kX : Held X) (kY : Held Y) where
+module _ (X Y : Table) (kX : OwnItems (items X)) (kY : OwnItems (items Y)) where
   only-bytes : (d : List ℕ) → Sized 32 d → claim.Only protocol (keysOf X) (keysOf Y) (bigEndian 32 d) → Only X Y d
   only-bytes d h o = (id-mem X kX d h (o .has-it), λ m. clash (has-id Y kY d m) (o .has-not))
 
@@ -134,7 +130,7 @@ stands-bounds l (range u (M.fingerprint g) ∷ rs) {f = f} st =
     (λ e. let z : g ≡ f = cc (e .2) in record { lower = l; upper = u; low = e .0; high = e .1; holds = List·Memᴰ·head (rw z) })
     (λ z. further l u (M.fingerprint g) rs (stands-bounds u rs z)) (stands-cases st)
 
-module _ (A B : Table) (kA : Held A) (kB : Held B) where
+module _ (A B : Table) (kA : OwnItems (items A)) (kB : OwnItems (items B)) where
   -- ---- the two tables together
 
   pub one-time : OneTime (items A ++ items B) → theory.OneTime protocol (keysOf A) (keysOf B)
@@ -151,7 +147,7 @@ module _ (A B : Table) (kA : Held A) (kB : Held B) where
   module _ (x y : Bound) {lower upper : ℕ} (low : key x ≡ lower) (high : key y ≡ upper) where
     fingerprints-equal : theory.fingerprintIn protocol (keysOf A) lower upper ≡ theory.fingerprintIn protocol (keysOf B) lower upper
         → fingerprintOf (within x y (items A)) ≡ fingerprintOf (within x y (items B))
-    fingerprints-equal e = sym (table-fingerprint A kA x y) ∙ rw (low, high) e ∙ table-fingerprint B kB x y
+    fingerprints-equal e = sym (own-print (items A) kA x y) ∙ rw (low, high) e ∙ own-print (items B) kB x y
 
     items-equal : within x y (items A) ≡ within x y (items B) → between (keysOf A) lower upper ≡ between (keysOf B) lower upper
     items-equal e = rw (← low, ← high) (sym (within-keys x y (items A)) ∙ ap (map keyOf) e ∙ within-keys x y (items B))
@@ -170,7 +166,7 @@ module _ (A B : Table) (kA : Held A) (kB : Held B) where
 
     ours-so : claim.Sound protocol (keysOf A) (keysOf B) s → (d : List ℕ) → ReportsOurs A p d → Only A B d
     ours-so sound d o =
-        let w = marked-item (s .marked) (items A) (o .index) (let z = o .own in omega (arith, kA .size)) (rw (g .marks) at (o .mark)) in
+        let w = marked-item (s .marked) (items A) (o .index) (let z = o .own in omega (arith, items-length A)) (rw (g .marks) at (o .mark)) in
         let i = w .0 in
         let h = all-mem Whole (kA .whole) (w .1) in
         let is : d ≡ i .id = sym (o .its) ∙ w .2 in
@@ -220,7 +216,7 @@ module _ (A B : Table) (kA : Held A) (kB : Held B) where
     ours-all complete i m o =
         ⊎-elim
         (λ e. let w = item-mark (s .marked) (items A) i m e in
-        inl (record { index = w .0; own = let z = w .1 in omega (arith, kA .size); its = w .2; mark = rw (g .marks) (w .3) }))
+        inl (record { index = w .0; own = let z = w .1 in omega (arith, items-length A); its = w .2; mark = rw (g .marks) (w .3) }))
         (λ c. inr (collides i c))
         (complete .ours (keyOf i) (mem-has keyOf m) (only-keys A B kA kB i (all-mem Whole (kA .whole) m) o))
 

@@ -21,7 +21,7 @@ use Rattle.table.proofs.Ids.{ids-sized}
 use Rattle.table.proofs.Items.{items-length}
 use Rattle.ends.specs.Lists.{some}
 use Rattle.ends.specs.Calls.{eachRange}
-use Rattle.ends.specs.Opener.{Lent, ones, neededIds, capacity, wrongBuffers, wrongContents, openingLeaves, unlisted, unowned, marksAfter, neededAfter, takeLeaves, opened, taken}
+use Rattle.ends.specs.Opener.{Lent, ones, neededIds, capacity, wrongBuffers, wrongContents, openingLeaves, unlisted, unowned, marksAfter, neededAfter, takeLeaves, openedWithin, takenWithin}
 use Rattle.ends.specs.Passing.{handedOn, OpeningPasses, TakePasses}
 use Rattle.ends.proofs.Lists.{overwrite-front, flatten-length, ids-flatten}
 use Rattle.ends.proofs.Reports.{unowned-sized}
@@ -102,9 +102,9 @@ module _ (set : Item → Bool) where
 
 pub opening-passes : OpeningPasses
 unfolding openingLeaves idsIn rising
-opening-passes T c l n e behind out whole =
-    let w = unrefused-opening T c l n e in
-    fit-passes T (handedOn (opened T c l .lent) behind out) (rw (w .left) (record {
+opening-passes limit T c l n e behind out whole =
+    let w = unrefused-opening limit T c l n e in
+    fit-passes T (handedOn (openedWithin limit T c l .lent) behind out) (rw (w .left) (record {
       marks = length-replicate (length (T .times)) 0;
       whole = whole;
       bits = no-bits (length (T .times));
@@ -150,8 +150,8 @@ module _ (T : Table) (l : Lent) (f : Fit T l) (bytes : Bytes (l .needed)) (rs : 
     }
 
 pub take-passes : TakePasses
-take-passes T c reply l n read held e behind out whole =
-    let w = unrefused-take T c reply l n e in
+take-passes limit T c reply l n read held e behind out whole =
+    let w = unrefused-take limit T c reply l n e in
     let well = message-back reply (w .ranges) (w .rest) read (w .says) .0 in
-    fit-passes T (handedOn (taken T c reply l .lent) behind out)
+    fit-passes T (handedOn (takenWithin limit T c reply l .lent) behind out)
     (rw (w .left) (left-fits T l (fits T l (w .fits)) held (w .ranges) well _ _ behind out whole))

@@ -6,12 +6,9 @@ use mathlib.Core.Bool.{Bool, false, cond}
 use mathlib.Core.List.{List, [], _∷_}
 use lib.ListN.{length, replicate}
 use Rattle.message.specs.Reader.{Outcome, read}
-use Rattle.message.specs.Bound.{start}
 use Rattle.message.specs.Message.{Range, readMessage, spellMessage}
-use Rattle.message.specs.Meaning.{tidy, writeMessage}
 use Rattle.message.specs.WellFormed.{Bytes, WellFormed}
 use Rattle.message.proofs.Messages.{message-there, message-back}
-use Rattle.message.proofs.Meaning.{tidy-rises}
 use Rattle.theory.specs.Message.{Message}
 use Rattle.theory.specs.Lawful.{LawfulReply, LawfulNext, LawfulOpening}
 use Rattle.table.specs.Table.{Table, items}
@@ -38,10 +35,6 @@ means-ranges w {rs} {rest} e = let z : _≡_ {A = Outcome (List Range)} (read rs
 -- bytes have one meaning
 pub means-alone : {m : List ℕ} {M N : Message (List ℕ)} → Means m M → Means m N → M ≡ N
 means-alone w z = w .projected ∙ ap project (means-ranges z (means-reads w)) ∙ sym (z .projected)
-
-pub written-means : (rs : List Range) {M : Message (List ℕ)} → WellFormed rs → project (tidy rs) ≡ M → Means (writeMessage rs) M
-unfolding writeMessage
-written-means rs h e = record { ranges = tidy rs; well = tidy-rises start rs h; spelled = refl; projected = sym e }
 
 -- any bytes that are read without refusal
 pub read-means : (m : List ℕ) (rs : List Range) (rest : List ℕ) → Bytes m → readMessage m ≡ read rs rest → Means m (project rs)

@@ -13,12 +13,14 @@ use Rattle.theory.proofs.Tests.{byTest, clash}
 use Rattle.table.specs.Answer.{refused}
 use Rattle.table.specs.Table.{Table, items, wrongSize, notRising}
 use Rattle.cutting.proofs.Projection.{protocol, project}
+use Rattle.limit.specs.Limit.{unlimited}
+use Rattle.limit.proofs.Parts.{OwnItems, own-items}
 use Rattle.ends.specs.Calls.{Result}
 use Rattle.ends.specs.Opener.{Lent, taken}
 use Rattle.ends.specs.Demand.{Take, Place, opening, Reported, OneTime}
 use Rattle.ends.specs.Takes.{Run}
 use Rattle.ends.specs.Replies.{TrueAndComplete}
-use Rattle.ends.proofs.Tables.{Kept, Held, kept, held, keysOf}
+use Rattle.ends.proofs.Tables.{Kept, kept, keysOf}
 use Rattle.ends.proofs.Calls.{unrefused-opening, refused-take}
 use Rattle.ends.proofs.Relations.{Means, read-means, Begun, Replied}
 use Rattle.ends.proofs.Takes.{reported, reported-never}
@@ -46,18 +48,18 @@ module _ (Replies : Table → List ℕ → List ℕ → Type 0) (A B : Table) (a
   Replying t = Replies B (t .query) (t .reply)
 
   refuses : (t : Take) (l : Lent) (k : ℕ) → taking t l .answer ≡ refused k → taking t l .lent ≡ l
-  refuses t l k e = refused-take A a (t .reply) l k e
+  refuses t l k e = refused-take unlimited A a (t .reply) l k e
 
   module _ (lawful : LawfulReplies Replies) (kA : Kept A a) (once : OneTime (items A ++ items B)) (o : Place) (begun : Begun A o) where
     none : ((t : Take) → Replying t → ⊥) → {p : Place} → Run itself taking Replying o p → Reported A B p
     none never ρ = reported-never itself taking Replying A B a never refuses o begun ρ
 
-    some : Bytes (B .ids) → Held B → {p : Place} → Run itself taking Replying o p → Reported A B p
+    some : Bytes (B .ids) → OwnItems (items B) → {p : Place} → Run itself taking Replying o p → Reported A B p
     some bytes hB ρ =
         reported itself taking Replying A B a
         (record {
           refuses = refuses;
-          takes = λ t l n e h w. take-took A a kA (t .reply) l n e w;
+          takes = λ t l n e h w. take-took unlimited A a kA (t .reply) l n e w;
           replies = λ t h w. lawful .replied B (t .query) (t .reply) bytes h w;
         })
         o begun kA hB once ρ
@@ -66,10 +68,10 @@ module _ (Replies : Table → List ℕ → List ℕ → Type 0) (A B : Table) (a
     either bytes ρ =
         byTest (wrongSize B) (λ e₁. none (λ t h. clash e₁ (lawful .sized B (t .query) (t .reply) h)) ρ)
         (λ e₁. byTest (notRising B) (λ e₂. none (λ t h. clash e₂ (lawful .rising B (t .query) (t .reply) h)) ρ)
-        (λ e₂. some bytes (held B bytes e₁ e₂) ρ))
+        (λ e₂. some bytes (own-items B bytes (e₁, e₂)) ρ))
 
 pub true-and-complete : (Replies : Table → List ℕ → List ℕ → Type 0) → LawfulReplies Replies → TrueAndComplete Replies
 true-and-complete Replies lawful A B a bytes-A bytes-B once lent n e p ρ =
-    let w = unrefused-opening A a lent n e .checks in
+    let w = unrefused-opening unlimited A a lent n e .checks in
     let kA = kept A a bytes-A (w .size) (w .order) (w .limits) in
-    either Replies A B a lawful kA once (opening A a lent) (opening-begun A a kA lent n e) bytes-B ρ
+    either Replies A B a lawful kA once (opening A a lent) (opening-begun unlimited A a kA lent n e) bytes-B ρ

@@ -19,6 +19,7 @@ use Rattle.theory.proofs.Tests.{byTest}
 use Rattle.theory.proofs.Ends.{take-reports}
 use Rattle.table.specs.Answer.{answer, refused}
 use Rattle.table.specs.Table.{Item, Table, items}
+use Rattle.table.proofs.Items.{items-length}
 use Rattle.cutting.proofs.Projection.{protocol, project}
 use Rattle.ends.specs.Lists.{overwrite}
 use Rattle.ends.specs.Calls.{Result}
@@ -72,7 +73,7 @@ module _ (A : Table) (a : Cut) (kA : Kept A a) where
     list = w .needed;
     count = w .count;
     needed = λ i. refl;
-    marks = w .marks ∙ marks-none (items A) (length (A .times)) (kA .size);
+    marks = w .marks ∙ marks-none (items A) (length (A .times)) (items-length A);
     done = w .going;
     sent = rw (w .sent) (Forall₂·cons (record { ranges = w .query; well = w .well; spelled = refl; projected = refl }) Forall₂·nil);
     handed = rw (w .handed) Forall₂·nil;

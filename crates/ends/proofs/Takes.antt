@@ -1,8 +1,8 @@
 -- The one theorem about lists of takes, whatever their kinds: if the opening, each reply and each take meet the relations of Relations.antt, reports are true and
 -- complete at every place (`reported`), and a row of L + 1 takes whose messages are not cut short ends in done (`owed-at`). The list of takes becomes one of the
 -- theory (`Reached`), step by step, and there the claim is `sound`, `complete` and `rounds`.
-use Prim.Native.Nat.{ℕ, zero, suc, _≤_, _<_}
-use mathlib.Core.Path.{_≡_, refl, sym, ap, _∙_}
+use Prim.Native.Nat.{ℕ, zero, suc, _≤_}
+use mathlib.Core.Path.{_≡_, refl, ap, _∙_}
 use mathlib.Core.Bool.{true, false}
 use mathlib.Core.List.{List, [], _∷_, _++_, List·Memᴰ, Forall₂, Forall₂·cons}
 use native.Mathlib.Omega.{arith}
@@ -19,19 +19,21 @@ use Rattle.theory.proofs.Completeness.{complete}
 use Rattle.theory.proofs.Rounds.{rounds}
 use Rattle.table.specs.Answer.{answer, refused}
 use Rattle.table.specs.Table.{keyOf, Table, items}
+use Rattle.table.proofs.Items.{items-length}
 use Rattle.cutting.proofs.Projection.{protocol, project}
+use Rattle.limit.proofs.Parts.{OwnItems}
 use Rattle.ends.specs.Calls.{Result}
 use Rattle.ends.specs.Opener.{Lent}
 use Rattle.ends.specs.Demand.{Take, Place, Reported, OneTime}
 use Rattle.ends.specs.Takes.{lentAt, Run, none, then-refused, then-taken, Row, Whole, Owed}
-use Rattle.ends.proofs.Tables.{Kept, Held, kept-held, keysOf}
+use Rattle.ends.proofs.Tables.{Kept, keysOf}
 use Rattle.ends.proofs.Lists.{paired-member}
 use Rattle.ends.proofs.Relations.{Means, means-alone, Begun, Replied, Took}
 use Rattle.ends.proofs.Simulation.{Agrees, begun-agrees, after, refused-agrees, taken-agrees, took}
 use Rattle.ends.proofs.Owed.{one-time}
 use Rattle.ends.proofs.Owed as place
 
-below-infinity : (T : Table) → Held T → Below (protocol .infinity) (keysOf T)
+below-infinity : (T : Table) → OwnItems (items T) → Below (protocol .infinity) (keysOf T)
 unfolding protocol
 below-infinity T k = k .below
 
@@ -196,27 +198,29 @@ module _ {X : Type 0} (handed : X → Take) (call : X → Lent → Result Lent) 
 
       -- ---- what is claimed
 
-      reported-at : Held B → OneTime (items A ++ items B) → {p : Place} → Takes p → Reported A B p
+      reported-at : OwnItems (items B) → OneTime (items A ++ items B) → {p : Place} → Takes p → Reported A B p
       reported-at kB once {p} ρ =
           let w = reached ρ in
-          let one = one-time A B (kept-held kA) kB once in
-          place.reported A B (kept-held kA) kB p (w .session) (w .agrees)
+          let one = one-time A B (kA .own) kB once in
+          place.reported A B (kA .own) kB p (w .session) (w .agrees)
           (sound protocol (keysOf A) (keysOf B) one (w .run))
-          (complete protocol (keysOf A) (keysOf B) (below-infinity A (kept-held kA)) (below-infinity B kB) (begun .lawful) (w .run))
+          (complete protocol (keysOf A) (keysOf B) (below-infinity A (kA .own)) (below-infinity B kB) (begun .lawful) (w .run))
 
       pub row-ends : Narrows → (L : ℕ) → Enough a (length (A .times)) L → {p : Place} (ρ : Takes p) → InRow (suc L) ρ → AllWhole (suc L) ρ → p .session .done ≡ true
       row-ends z L enough ρ row whole =
           let w = reached ρ in
           w .agrees .done
-          ∙ rounds a (let some = kA .parts in omega arith) (keysOf A) L (rw (length-map (items A) keyOf, kA .size) enough) (w .run) (w .narrows z (suc L) whole) (w .row (suc L) row)
+          ∙ rounds a (let some = kA .parts in omega arith) (keysOf A) L (rw (length-map (items A) keyOf, items-length A) enough)
+          (w .run) (w .narrows z (suc L) whole) (w .row (suc L) row)
 
   -- true and complete reports
-  pub reported : Lawful → (o : Place) → Begun A o → Kept A a → Held B → OneTime (items A ++ items B) → {p : Place} → Run handed call Allowed o p → Reported A B p
+  pub reported : Lawful → (o : Place) → Begun A o → Kept A a → OwnItems (items B) → OneTime (items A ++ items B)
+      → {p : Place} → Run handed call Allowed o p → Reported A B p
   reported lawful o begun kA kB once ρ = reported-at lawful o begun (Unit {0}) (λ x. Unit {0}) (λ x. Unit {0}) kA kB once ρ
 
   -- and rows of L + 1
   module _ (F : Type 0) (R : X → Type 0) (Q : X → Type 0) where
-    pub owed-at : (lawful : Lawful) (o : Place) (begun : Begun A o) → Kept A a → Held B → OneTime (items A ++ items B) → Narrows lawful o begun F R Q
+    pub owed-at : (lawful : Lawful) (o : Place) (begun : Begun A o) → Kept A a → OwnItems (items B) → OneTime (items A ++ items B) → Narrows lawful o begun F R Q
         → (L : ℕ) → Enough a (length (A .times)) L → {p : Place} (ρ : Run handed call Allowed o p) → Owed handed call Allowed F R Q A B L ρ
     owed-at lawful o begun kA kB once z L enough ρ = record {
       reported = reported lawful o begun kA kB once ρ;

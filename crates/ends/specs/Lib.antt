@@ -5,8 +5,9 @@
 -- Opener     Open and Take
 -- Passing    what an unrefused call leaves passes check 4: `OpeningPasses`, `TakePasses`
 -- Demand     what holds of every list of takes after one opening, two ends keeping to their tables and cuts: `Demand3`
--- Versions   the answer to another version, and that the opener sends 61: `AnswersByVersion`, `Sends61`
 -- Takes      lists of takes that differ in kind from each other, and what is owed of them: the words of the one theorem (proofs/Takes.antt)
+-- Mixed      lists of takes in which each call may be given a byte limit: `Demand3Mixed`
+-- Versions   the answer to another version, and that the opener sends 61: `AnswersByVersion`, `Sends61`
 -- Finished   two finished sessions, opened from either end: `WhoeverOpens`
 -- Replies    sessions with replies of any kind: `TrueAndComplete`
 -- Instance   lists of takes on bytes of which `Demand3`, `WhoeverOpens` and `TrueAndComplete` speak
@@ -16,8 +17,9 @@ pub mod Responder
 pub mod Opener
 pub mod Passing
 pub mod Demand
-pub mod Versions
 pub mod Takes
+pub mod Mixed
+pub mod Versions
 pub mod Finished
 pub mod Replies
 pub mod Instance

@@ -9,7 +9,8 @@ use Rattle.message.specs.WellFormed.{Bytes}
 use Rattle.theory.specs.Rounds.{Cut}
 use Rattle.table.specs.Answer.{answer}
 use Rattle.table.specs.Table.{Table}
-use Rattle.ends.specs.Opener.{Lent, wrongBuffers, wrongContents, opened, taken}
+use Rattle.limit.specs.Limit.{Limit}
+use Rattle.ends.specs.Opener.{Lent, wrongBuffers, wrongContents, openedWithin, takenWithin}
 
 -- session, marks and needed list handed on as l has them; the bytes behind the list and the out buffer are the caller's
 abbrev pub handedOn : Lent → List ℕ → List ℕ → Lent
@@ -20,10 +21,11 @@ abbrev pub Passes : Table → Lent → Type 0
 Passes T l = (behind out : List ℕ) → length behind % 32 ≡ 0 → (wrongBuffers T (handedOn l behind out) ≡ false) × (wrongContents (handedOn l behind out) ≡ false)
 
 abbrev pub OpeningPasses : Type 0
-OpeningPasses = (T : Table) (c : Cut) (l : Lent) (n : ℕ) → opened T c l .answer ≡ answer n → Passes T (opened T c l .lent)
+OpeningPasses =
+    (limit : Limit) (T : Table) (c : Cut) (l : Lent) (n : ℕ) → openedWithin limit T c l .answer ≡ answer n → Passes T (openedWithin limit T c l .lent)
 
 -- whatever the reply was
 abbrev pub TakePasses : Type 0
 TakePasses =
-    (T : Table) (c : Cut) (reply : List ℕ) (l : Lent) (n : ℕ) → Bytes reply → Bytes (l .needed) → taken T c reply l .answer ≡ answer n
-    → Passes T (taken T c reply l .lent)
+    (limit : Limit) (T : Table) (c : Cut) (reply : List ℕ) (l : Lent) (n : ℕ) → Bytes reply → Bytes (l .needed) → takenWithin limit T c reply l .answer ≡ answer n
+    → Passes T (takenWithin limit T c reply l .lent)

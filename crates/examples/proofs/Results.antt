@@ -21,11 +21,12 @@ use Rattle.label.specs.Label as L
 use Rattle.label.specs.Label.{littleEndian, total, labelOf, lowBytes, hashed, spellLabel, readLabel}
 use Rattle.tree.specs.Tree.{depthFrom, depthOf, places, sums, levels, spellLabels, treeOver, wrongTree, labelAt, putLabel, renew, renewAbove, build, grown, noneFree, appended, append, Found, visit, depthIn, labelOfRun}
 use Rattle.cutting.specs.Cutting.{fingerprintOf, shared, shortest, outsideLimits, innerBound, fingerprintRanges, cut}
+use Rattle.limit.specs.Limit.{bytes, belowLeast, exceeds, largest, runEnd, closed, fits, longest, firstIds, mostIds, partOf, shortened, limited, sentMessage}
 use Rattle.ends.specs.Lists.{some, same, overwrite}
 use Rattle.ends.specs.Calls.{Result, eachRange}
-use Rattle.ends.specs.Responder.{compare, treat, reply, otherVersion, answered}
-use Rattle.ends.specs.Opener.{Lent, wrongBuffers, wrongContents, firstQuery, openingLeaves, begin, opened, nextQuery, written, unlisted, marksAfter, unowned, insert, neededAfter, takeLeaves, conclude, taken}
-use Rattle.examples.specs.Table.{Varint, varints, Refused, refusals, Message, messages, merged, Neighbours, neighbours, Division, divisions, item, Opening, openings, Answering, answers, refusedQueries, one, two, Taking, takes, Labelled, labels, Tree, three, threeLabels, trees, spelled, Depth, depths, Run, emptyRuns, fourth, fourLabels, fourRuns}
+use Rattle.ends.specs.Responder.{compare, treat, reply, otherVersion, answered, answeredWithin}
+use Rattle.ends.specs.Opener.{Lent, wrongBuffers, wrongContents, firstQuery, openingLeaves, begin, opened, openedWithin, nextQuery, written, unlisted, marksAfter, unowned, insert, neededAfter, takeLeaves, conclude, taken, takenWithin}
+use Rattle.examples.specs.Table.{Varint, varints, Refused, refusals, Message, messages, merged, Neighbours, neighbours, Division, divisions, item, Opening, openings, Answering, answers, refusedQueries, one, two, Taking, takes, Labelled, labels, Tree, three, threeLabels, trees, spelled, Depth, depths, Run, emptyRuns, fourth, fourLabels, fourRuns, Limited, numbered, limits, tooSmall}
 
 -- an out buffer of just the size that is needed, and marks that are to become 0
 abbrev beforeOpening : Opening → Lent
@@ -97,5 +98,9 @@ pub table :
     × (append three fourth (spellLabels threeLabels) ≡ answer (spellLabels fourLabels))
     × (map (λ (e : Run). labelOfRun (spellLabels fourLabels) (e .from) (e .to)) fourRuns ≡ map found fourRuns)
     × (append (grown three fourth) (item 9 0x05) (spellLabels fourLabels) ≡ Answer.refused 13)
-unfolding readMessage readRanges readRange readBound readCoded readPrefix readPayload readOfMode readIds readVarint readDigits readBytes key bigEndian idSpace writeMessage tidy prepend isSkip spellMessage spellRanges spellRange spellBound spellPrefix spellPayload spellVarint digitsBefore flatten sizes split shared shortest innerBound fingerprintRanges cut items idsIn zipWith littleEndian total labelOf lowBytes hashed fingerprintOf L.fingerprint digest keep every rising keyOf wrongSize notRising within outsideLimits some same overwrite eachRange compare treat reply otherVersion answered wrongBuffers wrongContents firstQuery openingLeaves begin opened nextQuery written unlisted marksAfter unowned insert neededAfter takeLeaves conclude taken spellLabel readLabel depthFrom depthOf places sums levels spellLabels treeOver wrongTree labelAt putLabel renew renewAbove build noneFree appended append visit depthIn labelOfRun L.add
-table = (refl, refl, refl, refl, refl, refl, refl, refl, refl, refl, refl, refl, refl, refl, refl, refl, refl, refl, refl, refl, refl)
+    × (map (λ (e : Limited). length (writeMessage (e .ranges))) limits ≡ map (λ (e : Limited). e .whole) limits)
+    × (map (λ (e : Limited). sentMessage (bytes (e .limit)) (e .items) (e .ranges)) limits ≡ map (λ (e : Limited). e .message) limits)
+    × (map (λ (e : Limited). length (e .message)) limits ≡ map (λ (e : Limited). e .size) limits)
+    × (answeredWithin (bytes tooSmall) one two [] out ≡ record { answer = Answer.refused 14; lent = out })
+unfolding readMessage readRanges readRange readBound readCoded readPrefix readPayload readOfMode readIds readVarint readDigits readBytes key bigEndian idSpace writeMessage tidy prepend isSkip spellMessage spellRanges spellRange spellBound spellPrefix spellPayload spellVarint digitsBefore flatten sizes split shared shortest innerBound fingerprintRanges cut items idsIn zipWith littleEndian total labelOf lowBytes hashed fingerprintOf L.fingerprint digest keep every rising keyOf wrongSize notRising within outsideLimits some same overwrite eachRange compare treat reply otherVersion answeredWithin wrongBuffers wrongContents firstQuery openingLeaves begin openedWithin nextQuery written unlisted marksAfter unowned insert neededAfter takeLeaves conclude takenWithin belowLeast exceeds largest runEnd closed fits longest firstIds mostIds partOf shortened limited sentMessage numbered spellLabel readLabel depthFrom depthOf places sums levels spellLabels treeOver wrongTree labelAt putLabel renew renewAbove build noneFree appended append visit depthIn labelOfRun L.add
+table = (refl, refl, refl, refl, refl, refl, refl, refl, refl, refl, refl, refl, refl, refl, refl, refl, refl, refl, refl, refl, refl, refl, refl, refl, refl)

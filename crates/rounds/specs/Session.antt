@@ -43,14 +43,23 @@ abbrev pub reply₂ : List ℕ
 reply₂ = 0x61 ∷ 0x06 ∷ 0x01 ∷ 0x06 ∷ 0x02 ∷ 0x02 ∷ (starting 0x04 ++ (starting 0x05 ++ (0x03 ∷ 0x00 ∷ 0x02 ∷ 0x01 ∷ starting 0x06)))
 
 -- The first reply; any bytes, refused by 8; the first reply again, late; the second without room for its ids, refused by 11; and with room.
+abbrev pub take₁ : Take
+take₁ = record { query = query₁; reply = reply₁; out = replicate 100 0xDD; behind = [] }
+
+abbrev pub take₂ : Take
+take₂ = record { query = []; reply = 0x61 ∷ 0x80 ∷ []; out = []; behind = [] }
+
+abbrev pub take₃ : Take
+take₃ = record { query = query₁; reply = reply₁; out = replicate 90 0xDD; behind = replicate 32 0xCC }
+
+abbrev pub take₄ : Take
+take₄ = record { query = query₂; reply = reply₂; out = []; behind = replicate 64 0xCC }
+
+abbrev pub take₅ : Take
+take₅ = record { query = query₂; reply = reply₂; out = []; behind = replicate 128 0xCC }
+
 abbrev pub takes : List Take
-takes =
-    record { query = query₁; reply = reply₁; out = replicate 100 0xDD; behind = [] }
-    ∷ record { query = []; reply = 0x61 ∷ 0x80 ∷ []; out = []; behind = [] }
-    ∷ record { query = query₁; reply = reply₁; out = replicate 90 0xDD; behind = replicate 32 0xCC }
-    ∷ record { query = query₂; reply = reply₂; out = []; behind = replicate 64 0xCC }
-    ∷ record { query = query₂; reply = reply₂; out = []; behind = replicate 128 0xCC }
-    ∷ []
+takes = take₁ ∷ take₂ ∷ take₃ ∷ take₄ ∷ take₅ ∷ []
 
 -- `Demand3` speaks of them
 abbrev pub AskedHere : Type 0

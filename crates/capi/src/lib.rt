@@ -1,25 +1,30 @@
 // The calls for C and Rust, declared for C in include/recon.h: those of `session` on numbers and slices, with the same equations as their contracts.
 use cutting::Cut;
 use message::Bound;
-use session::Outcome;
+use sending::Outcome;
 use session::fingerprint::fingerprint;
+use session::opener::SessionOutcome;
 use session::opener::open_session;
 use session::opener::take_reply;
 use session::responder::answer_query;
+use shorten::Limit;
 use table::Checked;
 ghost use Prim.Native.Nat.{ℕ};
 ghost use mathlib.Core.Path.{_≡_};
+ghost use mathlib.Core.List.{List};
 ghost use lib.ListN.{length};
 ghost use Rattle.sha256.specs.Fips180.{digest};
 ghost use Rattle.table.specs.Answer.{bytesIn};
 ghost use Rattle.table.specs.Code.{lent};
 ghost use Rattle.ends.specs.Opener.{opened, taken};
 ghost use Rattle.ends.specs.Responder.{answered};
-ghost use Rattle.session.specs.Code.{outcomeOf};
+ghost use Rattle.sending.specs.Code.{outcomeOf};
+ghost use Rattle.session.specs.Code as opener;
 ghost use Rattle.session.specs.Fingerprint.{fingerprintBetween};
 ghost use Rattle.capi.specs.Calls.{cutBy, lentTo, noSession, told, toldWith, boundBy, numberIn};
 
 pub mod trees;
+pub mod within;
 
 // How many marks are 1, how many ids are needed, and whether the session is done.
 #[repr(C)]
@@ -45,7 +50,7 @@ pub struct SessionAnswer {
 }
 
 // An outcome in numbers.
-fn tell(outcome: Outcome) -> Answer
+pub(crate) fn tell(outcome: Outcome) -> Answer
     ensures { λ r. ⌜ r ≡ told (outcomeOf outcome) ⌝ }
 {
     match outcome {
@@ -53,6 +58,23 @@ fn tell(outcome: Outcome) -> Answer
         Outcome::Refused { refusal } => Answer {
             refusal: refusal.number(),
             length: 0,
+        },
+    }
+}
+
+// The same, and the session afterwards.
+pub(crate) fn tell_session(left: SessionOutcome) -> SessionAnswer
+    ensures { λ r. ⌜ ((marks needed out : List ℕ) → r ≡ toldWith (record { answer = outcomeOf (left .outcome); lent = opener.lentTo (left .session) marks needed out })) ⌝ }
+{
+    let outcome = left.outcome;
+    let answer = tell(outcome);
+    SessionAnswer {
+        refusal: answer.refusal,
+        length: answer.length,
+        session: Session {
+            marked: left.session.marked,
+            needed: left.session.needed,
+            done: left.session.done,
         },
     }
 }
@@ -88,18 +110,8 @@ pub extern "C" fn recon_open(
     ensures { λ _. ⌜ now (marks .exit) ≡ opened (lent (now (times .entry)) (now (ids .entry))) (cutBy parts limit) (lentTo noSession (now (marks .entry)) (now (needed .entry)) (now (out .entry))) .lent .marks ⌝ }
     ensures { λ _. ⌜ now (out .exit) ≡ opened (lent (now (times .entry)) (now (ids .entry))) (cutBy parts limit) (lentTo noSession (now (marks .entry)) (now (needed .entry)) (now (out .entry))) .lent .out ⌝ }
 {
-    let opened = open_session(times, ids, Cut { parts, limit }, marks, needed, out);
-    let outcome = opened.outcome;
-    let answer = tell(outcome);
-    SessionAnswer {
-        refusal: answer.refusal,
-        length: answer.length,
-        session: Session {
-            marked: opened.session.marked,
-            needed: opened.session.needed,
-            done: opened.session.done,
-        },
-    }
+    let cut = Cut { parts, limit };
+    tell_session(open_session(times, ids, cut, Limit::Unlimited, marks, needed, out))
 }
 
 // Answers a query.
@@ -115,7 +127,8 @@ pub extern "C" fn recon_answer(
     ensures { λ r. ⌜ r ≡ told (answered (lent (now (times .entry)) (now (ids .entry))) (cutBy parts limit) (now (query .entry)) (now (out .entry)) .answer) ⌝ }
     ensures { λ _. ⌜ now (out .exit) ≡ answered (lent (now (times .entry)) (now (ids .entry))) (cutBy parts limit) (now (query .entry)) (now (out .entry)) .lent ⌝ }
 {
-    tell(answer_query(times, ids, Cut { parts, limit }, query, out))
+    let cut = Cut { parts, limit };
+    tell(answer_query(times, ids, cut, Limit::Unlimited, query, out))
 }
 
 // Takes a reply.
@@ -141,27 +154,9 @@ pub extern "C" fn recon_take(
         needed: session.needed,
         done: session.done,
     };
-    let taken = take_reply(
-        times,
-        ids,
-        Cut { parts, limit },
-        reply,
-        before,
-        marks,
-        needed,
-        out,
-    );
-    let outcome = taken.outcome;
-    let answer = tell(outcome);
-    SessionAnswer {
-        refusal: answer.refusal,
-        length: answer.length,
-        session: Session {
-            marked: taken.session.marked,
-            needed: taken.session.needed,
-            done: taken.session.done,
-        },
-    }
+    let cut = Cut { parts, limit };
+    let no = Limit::Unlimited;
+    tell_session(take_reply(times, ids, cut, no, reply, before, marks, needed, out))
 }
 
 // The fingerprint of the items from a lower bound up to an upper one: 0 and the 16 bytes, or the number of the refusal and no byte changed.

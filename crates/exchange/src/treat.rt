@@ -1,4 +1,4 @@
-// What either end makes of the other's message, range by range, handed to the writer: written, or only measured.
+// What either end makes of the other's message, range by range, handed to the writer: written or measured.
 use cutting::Cut;
 use cutting::Span;
 use cutting::ranges::put_cut;
@@ -9,6 +9,7 @@ use message::Payload;
 use message::Range;
 use walk::Walk;
 use writer::varint::Written;
+use writer::write::Pass;
 use writer::write::Write;
 use writer::write::Writer;
 ghost use Prim.Native.Nat.{_+_, _≤_};
@@ -21,7 +22,7 @@ ghost use Rattle.message.specs.Message.{range, skip};
 ghost use Rattle.message.specs.Code.{payloadOf};
 ghost use Rattle.writer.specs.Private as W;
 ghost use Rattle.writer.specs.Stream.{before};
-ghost use Rattle.writer.specs.Handover.{after, HandsOver};
+ghost use Rattle.writer.specs.Handover.{writes, bufferOf, after, HandsOver};
 ghost use Rattle.reader.specs.Private.{rangesAt};
 ghost use Rattle.table.specs.Table.{items, within};
 ghost use Rattle.table.specs.Code.{lent};
@@ -50,9 +51,9 @@ fn equals_own(m: &[u8], at: usize, times: &[u64], own: &[u8], span: Span) -> boo
 }
 
 // A skip up to the span's bound.
-fn put_skip(writer: Writer, out: &mut [u8], writing: bool, span: Span, m: &[u8]) -> Write
+fn put_skip(writer: Writer, out: &mut [u8], pass: Pass, span: Span, m: &[u8]) -> Write
     requires { ⌜ W.Lawful (span .bound) ⌝ }
-    ensures { λ r. ⌜ HandsOver writing (range (upperOf span) skip ∷ []) (before writer (now (out .entry))) (after r (now (out .exit))) ⌝ }
+    ensures { λ r. ⌜ HandsOver (writes pass) (range (upperOf span) skip ∷ []) (before writer (bufferOf pass (now (out .entry)))) (after r (bufferOf pass (now (out .exit)))) ⌝ }
 {
     let bound = span.bound;
     let prefix = span.prefix;
@@ -61,14 +62,14 @@ fn put_skip(writer: Writer, out: &mut [u8], writing: bool, span: Span, m: &[u8])
         prefix,
         payload: Payload::Skip,
     };
-    writer.put(out, writing, range, m)
+    writer.put(out, pass, range, m)
 }
 
 // What one range becomes: where it lists ids, all own ids if `listing` says so, and otherwise a skip.
-fn put_treated(
+pub fn put_treated(
     writer: Writer,
     out: &mut [u8],
-    writing: bool,
+    pass: Pass,
     listing: bool,
     times: &[u64],
     own: &[u8],
@@ -78,21 +79,21 @@ fn put_treated(
     payload: Payload,
 ) -> Write
     requires { ⌜ Passed (lent (now times) (now own)) × (outsideLimits (cutOf cut) ≡ false) × Inside (lent (now times) (now own)) span × W.Inside payload (length (now m)) ⌝ }
-    ensures { λ r. ⌜ ((x : Bound) → within x (upperOf span) (items (lent (now (times .entry)) (now (own .entry)))) ≡ ownIn (lent (now (times .entry)) (now (own .entry))) span → HandsOver writing (treat (given listing) (cutOf cut) (items (lent (now (times .entry)) (now (own .entry)))) x (upperOf span) (payloadOf payload (now (m .entry)))) (before writer (now (out .entry))) (after r (now (out .exit)))) ⌝ }
+    ensures { λ r. ⌜ ((x : Bound) → within x (upperOf span) (items (lent (now (times .entry)) (now (own .entry)))) ≡ ownIn (lent (now (times .entry)) (now (own .entry))) span → HandsOver (writes pass) (treat (given listing) (cutOf cut) (items (lent (now (times .entry)) (now (own .entry)))) x (upperOf span) (payloadOf payload (now (m .entry)))) (before writer (bufferOf pass (now (out .entry)))) (after r (bufferOf pass (now (out .exit))))) ⌝ }
 {
     match payload {
-        Payload::Skip => put_skip(writer, out, writing, span, m),
+        Payload::Skip => put_skip(writer, out, pass, span, m),
         Payload::Fingerprint { at } => {
             if equals_own(m, at, times, own, span) {
-                return put_skip(writer, out, writing, span, m);
+                return put_skip(writer, out, pass, span, m);
             }
-            put_cut(writer, out, writing, times, own, cut, span)
+            put_cut(writer, out, pass, times, own, cut, span)
         }
         Payload::Ids { count: _, at: _ } => {
             if listing {
-                return put_ids(writer, out, writing, times, own, span);
+                return put_ids(writer, out, pass, times, own, span);
             }
-            put_skip(writer, out, writing, span, m)
+            put_skip(writer, out, pass, span, m)
         }
     }
 }
@@ -101,7 +102,7 @@ fn put_treated(
 pub fn put_reply(
     writer: Writer,
     out: &mut [u8],
-    writing: bool,
+    pass: Pass,
     listing: bool,
     times: &[u64],
     own: &[u8],
@@ -109,7 +110,7 @@ pub fn put_reply(
     m: &[u8],
 ) -> Write
     requires { ⌜ Passed (lent (now times) (now own)) × (outsideLimits (cutOf cut) ≡ false) × Walking (lent (now times) (now own)) (now m) starts ⌝ }
-    ensures { λ r. ⌜ HandsOver writing (flatten (eachRange (treat (given listing) (cutOf cut) (items (lent (now (times .entry)) (now (own .entry))))) start (rangesAt (now (m .entry)) (starts .cursor)))) (before writer (now (out .entry))) (after r (now (out .exit))) ⌝ }
+    ensures { λ r. ⌜ HandsOver (writes pass) (flatten (eachRange (treat (given listing) (cutOf cut) (items (lent (now (times .entry)) (now (own .entry))))) start (rangesAt (now (m .entry)) (starts .cursor)))) (before writer (bufferOf pass (now (out .entry)))) (after r (bufferOf pass (now (out .exit)))) ⌝ }
 {
     let mut answer = Write {
         written: Written::Taken,
@@ -121,18 +122,7 @@ pub fn put_reply(
         let span = step.span;
         let payload = step.payload;
         let next = answer.next;
-        answer = put_treated(
-            next,
-            out,
-            writing,
-            listing,
-            times,
-            own,
-            cut,
-            m,
-            span,
-            payload,
-        );
+        answer = put_treated(next, out, pass, listing, times, own, cut, m, span, payload);
         let written = answer.written;
         match written {
             Written::Refused { refusal: _ } => {

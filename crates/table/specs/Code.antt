@@ -21,6 +21,7 @@ numberOf Refusal.BadMode = 10
 numberOf Refusal.NeededFull = 11
 numberOf Refusal.NoRoom = 12
 numberOf Refusal.WrongTree = 13
+numberOf Refusal.ByteLimit = 14
 
 abbrev pub checkedOf : Checked → Answer (Unit {0})
 checkedOf Checked.Passed = answer tt

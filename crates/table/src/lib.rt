@@ -36,6 +36,8 @@ pub enum Refusal {
     NoRoom,
     // 13: the bytes of the tree are not those of a tree over these places, or no place of it is free
     WrongTree,
+    // 14: the byte limit is below 4,096
+    ByteLimit,
 }
 
 impl Refusal {
@@ -57,6 +59,7 @@ impl Refusal {
             Refusal::NeededFull => 11,
             Refusal::NoRoom => 12,
             Refusal::WrongTree => 13,
+            Refusal::ByteLimit => 14,
         }
     }
 

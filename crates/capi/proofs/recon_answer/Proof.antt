@@ -3,7 +3,7 @@ use mathlib.Core.Path.{_≡_, refl}
 use borrow.Author.Needs.{needs}
 use Rattle.table.specs.Code.{lent}
 use Rattle.ends.specs.Responder.{answered}
-use Rattle.session.specs.Code.{outcomeOf}
+use Rattle.sending.specs.Code.{outcomeOf}
 use Rattle.capi.specs.Calls.{cutBy}
 use Rattle.capi.proofs.recon_answer.Statement.{statement}
 use Rattle.capi.proofs.recon_answer.Tie as tie
@@ -12,7 +12,8 @@ returns : tie.Need-returns
 returns c =
     let a = c .before .before .before .before .before .before .before .before .before .args in
     let called = c .before .before .before .answer-query in
-    let e : answered (lent (a .times .now) (a .ids .now)) (cutBy (a .parts) (a .limit)) (a .query .now) (a .out .now) ≡ record { answer = outcomeOf (called .result); lent = called .last .1 .1 .1 .1 .0 } = called .ensures in
+    let e : answered (lent (a .times .now) (a .ids .now)) (cutBy (a .parts) (a .limit)) (a .query .now) (a .out .now)
+    ≡ record { answer = outcomeOf (called .result); lent = called .last .1 .1 .1 .1 .1 .0 } = called .ensures in
     (rw (c .tell .ensures, e) refl, rw e refl)
 
 pub recon-answer-spec : {M : Type 1} → statement M

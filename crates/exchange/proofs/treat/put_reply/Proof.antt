@@ -9,7 +9,7 @@ use Rattle.message.specs.Bound.{start}
 use Rattle.message.specs.Code.{payloadOf}
 use Rattle.writer.specs.Writing.{verdictOf}
 use Rattle.writer.specs.Stream.{before}
-use Rattle.writer.specs.Handover.{after, HandsOver}
+use Rattle.writer.specs.Handover.{writes, bufferOf, after, HandsOver}
 use Rattle.writer.proofs.Handover.{after-before}
 use Rattle.reader.specs.Private.{lowerAt, rangesAt}
 use Rattle.table.specs.Code.{lent}
@@ -25,13 +25,13 @@ use Rattle.exchange.proofs.treat.put_reply.Statement.{statement}
 use Rattle.exchange.proofs.treat.put_reply.Tie as tie
 
 abbrev Inv-loop : tie.InvT-loop
-Inv-loop out₀ writing listing times own cut m answer₀ walk₀ out answer walk =
-    Treated writing (treat (given listing) (cutOf cut) (items (lent times own))) (lent times own) m
+Inv-loop out₀ pass listing times own cut m answer₀ walk₀ out answer walk =
+    Treated (writes pass) (treat (given listing) (cutOf cut) (items (lent times own))) (lent times own) m
     (flatten (eachRange (treat (given listing) (cutOf cut) (items (lent times own))) start (rangesAt m (starts .cursor))))
-    (before (answer₀ .next) out₀) walk (after answer out) × (length out ≡ length out₀)
+    (before (answer₀ .next) (bufferOf pass out₀)) walk (after answer (bufferOf pass out)) × (length out ≡ length out₀)
 
 abbrev μ-loop : tie.MeasureT-loop
-μ-loop out₀ writing listing times own cut m answer₀ walk₀ out answer walk = length m - walk .cursor .at
+μ-loop out₀ pass listing times own cut m answer₀ walk₀ out answer walk = length m - walk .cursor .at
 
 abbrev table : tie.Start Inv-loop μ-loop → Table
 table s = lent (s .args .times .now) (s .args .own .now)
@@ -39,7 +39,7 @@ table s = lent (s .args .times .now) (s .args .own .now)
 loop-holds : tie.Need-loop-holds Inv-loop μ-loop
 loop-holds c =
     let s = c .before .before .before .before .before in
-    (rw (c .start .ensures) (treated-start (s .args .writing) _ (table s) (s .args .m .now) (before (s .args .writer) (s .args .out .now)) refl (s .pre .2)), refl)
+    (rw (c .start .ensures) (treated-start (writes (s .args .pass)) _ (table s) (s .args .m .now) (before (s .args .writer) (bufferOf (s .args .pass) (s .args .out .now))) refl (s .pre .2)), refl)
 
 step-requires : tie.Need-step-requires Inv-loop μ-loop
 step-requires c κs = let l = c .before .before .loop in (c .before .before .before .before .before .before .before .before .pre .0, l .inv .0 .walking, c .if1 .taken)
@@ -49,12 +49,12 @@ put-treated-requires c κs = let s = c .before .before .before .before .before .
 
 -- the range that was handed over
 one : (p : tie.After-put-treated Inv-loop μ-loop) → let s = p .before .before .before .before .before .before .before .before .before .before .before .before .before in let l = p .before .before .before .before .before .before .before .loop in let st = p .before .before .before .before .step .result in
-    HandsOver (s .args .writing)
+    HandsOver (writes (s .args .pass))
     (treat (given (s .args .listing)) (cutOf (s .args .cut)) (items (table s)) (lowerAt (l .walk .cursor)) (upperOf (st .span)) (payloadOf (st .payload) (s .args .m .now)))
-    (after (l .answer) (l .out)) (after (p .put-treated .result) (p .put-treated .last .1 .0))
+    (after (l .answer) (bufferOf (s .args .pass) (l .out))) (after (p .put-treated .result) (bufferOf (s .args .pass) (p .put-treated .last .1 .0)))
 one p =
     let l = p .before .before .before .before .before .before .before .loop in
-    rw (after-before (l .answer) (l .out) (l .inv .0 .none-refused)) (p .put-treated .ensures (lowerAt (l .walk .cursor)) (p .before .before .before .before .step .ensures .own))
+    rw (after-before (l .answer) (bufferOf (p .before .before .before .before .before .before .before .before .before .before .before .before .before .args .pass) (l .out)) (l .inv .0 .none-refused)) (p .put-treated .ensures (lowerAt (l .walk .cursor)) (p .before .before .before .before .step .ensures .own))
 
 returns : tie.Need-returns Inv-loop μ-loop
 returns c =

@@ -2,8 +2,8 @@
 //!
 //! A plain reference, written from the specification and without dependencies. The files follow its headings:
 //! `bound` and `table` (Tables and bounds), `label` and `sha256` (Fingerprints), `cursor` and `message` (Messages),
-//! `cutting` (Cutting), `ends` (The two ends), `tree` (Labels kept in a tree), `limit` (Byte limits), `refusal` (In
-//! checking order).
+//! `cutting` (Cutting), `ends` (The two ends), `tree` (Labels kept in a tree), `limit` (Byte limits), `fold` (Folding in),
+//! `refusal` (In checking order).
 //!
 //! Quotation marks in comments hold words of the specification. Every refusal is its number there, in `Err`.
 //! A refused call has changed no lent byte.
@@ -15,6 +15,7 @@ mod bound;
 mod cursor;
 mod cutting;
 mod ends;
+mod fold;
 mod label;
 mod limit;
 mod message;
@@ -25,6 +26,7 @@ mod tree;
 
 pub use bound::Bound;
 pub use ends::{answer, answer_within, fingerprint, open, open_within, take, take_within, GivenBound, Sent, Session};
+pub use fold::{fold_commit, fold_inquire, Committed, Inquiry};
 pub use label::Label;
 pub use message::{read, spell, tidy, write, Payload, Range};
 pub use sha256::sha256;

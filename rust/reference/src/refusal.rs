@@ -28,3 +28,9 @@ pub const OUT_ROOM: u8 = 12;
 pub const TREE: u8 = 13;
 /// "A limit below 4,096". It comes "after 3".
 pub const BYTES: u8 = 14;
+/// "The session isn't done". It comes "after 5".
+pub const NOT_DONE: u8 = 15;
+/// "A batch id isn't on the needed list or its item is already in the table". It comes "after 15".
+pub const NOT_DUE: u8 = 16;
+/// "The table's buffers can't hold the merge or it passes 1,048,576 items". It comes "in the place of 11".
+pub const TABLE_ROOM: u8 = 17;

@@ -18,15 +18,26 @@ pub struct Table<'a> {
 impl<'a> Table<'a> {
     /// Refusals 1 and 2. Refusal 1 is judged over the whole table first.
     pub fn lent(times: &'a [u64], ids: &'a [u8]) -> Result<Table<'a>, u8> {
+        let table = Table::sized(times, ids)?;
+        table.judge_order()?;
+        Ok(table)
+    }
+
+    /// Refusal 1.
+    pub fn sized(times: &'a [u64], ids: &'a [u8]) -> Result<Table<'a>, u8> {
         if times.len() > MAX_ITEMS || ids.len() != 32 * times.len() {
             return Err(refusal::TABLE_SIZE);
         }
-        let table = Table { times, ids };
-        let rising = (1..times.len()).all(|i| table.item(i - 1) < table.item(i));
-        if !rising || times.iter().any(|&time| time > MAX_TIME) {
+        Ok(Table { times, ids })
+    }
+
+    /// Refusal 2.
+    pub fn judge_order(&self) -> Result<(), u8> {
+        let rising = (1..self.count()).all(|i| self.item(i - 1) < self.item(i));
+        if !rising || self.times.iter().any(|&time| time > MAX_TIME) {
             return Err(refusal::TABLE_ORDER);
         }
-        Ok(table)
+        Ok(())
     }
 
     /// n, the "item count".

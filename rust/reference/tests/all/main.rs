@@ -1,9 +1,10 @@
 //! Tests of the public interface: the specification's examples, byte examples, whole sessions.
 //!
-//! E1 to E11 are the specification's examples.
+//! E1 to E13 and E21 to E23 are the specification's examples.
 
 mod byte_limits;
 mod examples;
+mod folding;
 mod hashing;
 mod reading;
 mod refusals;

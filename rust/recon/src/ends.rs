@@ -105,6 +105,21 @@ impl<'a> Opener<'a> {
         self.session
     }
 
+    /// The session, and the ids of the needed list, one behind the other. The table is not borrowed any more.
+    pub fn into_parts(mut self) -> (Session, Vec<u8>) {
+        self.needed.truncate(ID_BYTES * self.session.needed);
+        (self.session, self.needed)
+    }
+
+    pub(crate) fn table(&self) -> Table<'_> {
+        self.table
+    }
+
+    /// The ids of the needed list.
+    pub(crate) fn needed(&self) -> &[u8] {
+        &self.needed[..ID_BYTES * self.session.needed]
+    }
+
     /// Whether the session is done: then all is reported.
     pub fn is_done(&self) -> bool {
         self.session.done
@@ -121,7 +136,7 @@ impl<'a> Opener<'a> {
     /// The ids that only the other end has, rising; messages list ids without their times. What is reported before the session is done is
     /// true already, but it need not be all.
     pub fn theirs_only(&self) -> impl Iterator<Item = &[u8; ID_BYTES]> + '_ {
-        ids(&self.needed).take(self.session.needed)
+        ids(self.needed())
     }
 }
 
@@ -193,7 +208,7 @@ impl fmt::Debug for Responder<'_> {
 }
 
 /// The ids in a byte string. A chunk has the bytes of an id, so none is left out.
-fn ids(bytes: &[u8]) -> impl Iterator<Item = &[u8; ID_BYTES]> {
+pub(crate) fn ids(bytes: &[u8]) -> impl Iterator<Item = &[u8; ID_BYTES]> {
     bytes.chunks_exact(ID_BYTES).filter_map(|id| id.try_into().ok())
 }
 

@@ -36,6 +36,20 @@ pub struct TreeAnswer {
     pub visited: u64,
 }
 
+#[repr(C)]
+pub struct InquiryAnswer {
+    pub refusal: u64,
+    pub entering: usize,
+    pub staying: usize,
+}
+
+#[repr(C)]
+pub struct CommitAnswer {
+    pub refusal: u64,
+    pub items: usize,
+    pub session: RawSession,
+}
+
 impl From<RawSession> for Session {
     fn from(s: RawSession) -> Session {
         Session {
@@ -107,6 +121,16 @@ extern "C" {
         time: u64, id: *const u8, id_len: usize, tree: *mut u8, tree_len: usize,
     ) -> u64;
     fn recon_tree_label(tree: *const u8, tree_len: usize, from: usize, to: usize) -> TreeAnswer;
+    fn recon_fold_inquire(
+        times: *const u64, times_len: usize, ids: *const u8, ids_len: usize, items: usize, session: RawSession,
+        needed: *const u8, needed_len: usize, batch_times: *const u64, batch_times_len: usize,
+        batch_ids: *const u8, batch_ids_len: usize,
+    ) -> InquiryAnswer;
+    fn recon_fold_commit(
+        times: *mut u64, times_len: usize, ids: *mut u8, ids_len: usize, items: usize, session: RawSession,
+        needed: *mut u8, needed_len: usize, batch_times: *const u64, batch_times_len: usize,
+        batch_ids: *const u8, batch_ids_len: usize,
+    ) -> CommitAnswer;
 }
 
 #[rustfmt::skip]
@@ -254,4 +278,41 @@ pub fn tree_append(table: Table<'_>, time: u64, id: &[u8], tree: &mut [u8]) -> u
 pub fn tree_label(tree: &[u8], from: usize, to: usize) -> TreeAnswer {
     // SAFETY: see the head of this file.
     unsafe { recon_tree_label(tree.as_ptr(), tree.len(), from, to) }
+}
+
+#[rustfmt::skip]
+pub fn fold_inquire(
+    times: &[u64],
+    ids: &[u8],
+    items: usize,
+    session: Session,
+    needed: &[u8],
+    batch: Table<'_>,
+) -> InquiryAnswer {
+    // SAFETY: see the head of this file.
+    unsafe {
+        recon_fold_inquire(
+            times.as_ptr(), times.len(), ids.as_ptr(), ids.len(), items, session.into(), needed.as_ptr(), needed.len(),
+            batch.times.as_ptr(), batch.times.len(), batch.ids.as_ptr(), batch.ids.len(),
+        )
+    }
+}
+
+#[rustfmt::skip]
+pub fn fold_commit(
+    times: &mut [u64],
+    ids: &mut [u8],
+    items: usize,
+    session: Session,
+    needed: &mut [u8],
+    batch: Table<'_>,
+) -> CommitAnswer {
+    // SAFETY: see the head of this file.
+    unsafe {
+        recon_fold_commit(
+            times.as_mut_ptr(), times.len(), ids.as_mut_ptr(), ids.len(), items, session.into(),
+            needed.as_mut_ptr(), needed.len(),
+            batch.times.as_ptr(), batch.times.len(), batch.ids.as_ptr(), batch.ids.len(),
+        )
+    }
 }

@@ -104,16 +104,45 @@
 //! # Ok::<(), Refusal>(())
 //! ```
 //!
+//! # Folding in
+//!
+//! Once a session is done, the other end hands over the items that are needed, and the table takes them, a batch at a time: [`fold_inquire`]
+//! tells what a batch would do, and [`fold_commit`] merges it into the table and takes its ids off the needed list. A [`Fold`] does so with
+//! buffers that grow.
+//!
+#![cfg_attr(feature = "alloc", doc = "```")]
+#![cfg_attr(not(feature = "alloc"), doc = "```ignore")]
+//! use recon::{sha256, Cut, Opener, Refusal, Responder, Table};
+//!
+//! let [a, b, c] = [sha256(b"a"), sha256(b"b"), sha256(b"c")];
+//! let (our_ids, their_ids) = ([a, b].concat(), [a, c].concat());
+//! let ours = Table { times: &[100, 200], ids: &our_ids };
+//! let theirs = Table { times: &[100, 300], ids: &their_ids };
+//! let mut opener = Opener::open(ours, Cut::default())?;
+//! let mut responder = Responder::new(theirs, Cut::default());
+//! while let Some(query) = opener.query() {
+//!     opener.take(responder.answer(query)?)?;
+//! }
+//!
+//! let mut fold = opener.fold()?; // a copy of the table
+//! let batch = Table { times: &[300], ids: &c };
+//! let told = fold.inquire(batch)?;
+//! assert_eq!((told.entering, told.staying), (1, 0));
+//! fold.commit(batch)?;
+//! assert_eq!(fold.table().times, [100, 200, 300]);
+//! # Ok::<(), Refusal>(())
+//! ```
+//!
 //! # What all calls share
 //!
 //! No call panics or has a condition: whatever is wrong with what it is handed, it answers with a [`Refusal`], and then it has changed
-//! nothing. After refusals 11 and 12 make the buffer larger and the call again. Each plain call is proved equal to its definition. This crate
-//! only passes slices on, and the two types keep the buffers.
+//! nothing. After refusals 11, 12 and 17 make the buffer larger and the call again. Each plain call is proved equal to its definition. This crate
+//! only passes slices on, and the types `Opener`, `Responder` and `Fold` keep the buffers.
 //!
 //! # Features
 //!
 //! - `std` (on by default): [`Refusal`] is an `std::error::Error`. Without it the crate needs `core` alone.
-//! - `alloc` (with `std`): `Opener` and `Responder`.
+//! - `alloc` (with `std`): `Opener`, `Responder` and `Fold`.
 //!
 //! # Linking
 //!
@@ -121,7 +150,7 @@
 //! `RECON_LIB_DIR` names, or else where the repository and the archive have it. It needs nothing but `memcpy` and `memset`.
 #![no_std]
 #![warn(missing_docs)]
-// This page speaks of both types also where they are left out.
+// This page speaks of these types also where they are left out.
 #![cfg_attr(not(feature = "alloc"), allow(rustdoc::broken_intra_doc_links))]
 
 #[cfg(feature = "alloc")]
@@ -132,12 +161,18 @@ extern crate std;
 #[cfg(feature = "alloc")]
 mod ends;
 mod ffi;
+mod fold;
+#[cfg(feature = "alloc")]
+mod folding;
 mod refusal;
 mod trees;
 mod within;
 
 #[cfg(feature = "alloc")]
 pub use ends::{Opener, Responder};
+pub use fold::{fold_commit, fold_inquire, Committed, Inquiry};
+#[cfg(feature = "alloc")]
+pub use folding::Fold;
 pub use refusal::Refusal;
 pub use trees::{append_to_tree, build_tree, label_of_run, tree_bytes, Label, RunLabel};
 pub use within::{answer_query_within, open_session_within, take_reply_within};

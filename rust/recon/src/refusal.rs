@@ -4,10 +4,10 @@ use core::fmt;
 macro_rules! refusals {
     ($($number:literal $kind:ident $text:literal $($more:literal)?,)+) => {
         /// Why a call is refused. The numbers are those of the specification and of `recon.h`, in the order in which a call checks them, save
-        /// that 13 is checked right after 2, and 14 right after 3.
+        /// that 13 is checked right after 2, 14 right after 3, 15 and then 16 right after 5, and 17 in the place of 11.
         ///
-        /// A refused call has changed nothing. So after [`NeededFull`](Refusal::NeededFull) and [`NoRoom`](Refusal::NoRoom) the call can be
-        /// made again with a larger buffer.
+        /// A refused call has changed nothing. So after [`NeededFull`](Refusal::NeededFull), [`NoRoom`](Refusal::NoRoom) and, unless there
+        /// are too many items, [`TableFull`](Refusal::TableFull) the call can be made again with a larger buffer.
         ///
         /// ```
         /// use recon::{answer_query, Cut, Refusal, Table};
@@ -92,6 +92,10 @@ refusals! {
     13 WrongTree "the tree is not as long as one over these items is, or has no free place"
         "Nothing has changed. After an append to a full tree, build one over all the items: it has twice the places.",
     14 ByteLimit "the byte limit is below 4,096",
+    15 SessionOpen "the session is not done",
+    16 NotDue "an id of the batch is not on the needed list, or its item is already in the table",
+    17 TableFull "the table's buffers cannot hold the merge, or it exceeds 1,048,576 items"
+        "Nothing has changed. Unless it exceeds 1,048,576 items, make the call again with longer buffers.",
 }
 
 impl fmt::Display for Refusal {

@@ -1,6 +1,6 @@
 //! What the two ends do where memory cannot be had, and how much of it they take.
 #![cfg(feature = "alloc")]
-use recon::{sha256, Cut, Opener, Refusal, Responder, Session, Table};
+use recon::{sha256, Cut, Fold, Opener, Refusal, Responder, Session, Table};
 use std::alloc::{GlobalAlloc, Layout, System};
 use std::cell::Cell;
 
@@ -151,4 +151,61 @@ fn a_message_takes_no_more_memory_than_its_limit() {
     assert_eq!(largest_asked(|| Opener::open_within(some.table(), LISTS, 4096)), 4096);
     let opened = with_largest(4096, || Opener::open_within(some.table(), LISTS, 4096));
     assert!(opened.is_ok());
+}
+
+/// An empty table, whose session needs the ids of these records.
+fn needing(records: &Records) -> Fold {
+    let mut needed: Vec<&[u8]> = records.ids.chunks_exact(32).collect();
+    needed.sort_unstable();
+    let session = Session {
+        marked: 0,
+        needed: needed.len(),
+        done: true,
+    };
+    Fold::new(Vec::new(), Vec::new(), session, needed.concat()).unwrap()
+}
+
+#[test]
+fn a_batch_without_memory_changes_nothing() {
+    let many = Records::new(1000);
+    let mut fold = needing(&many);
+    for size in [0, 5000, TOO_SMALL] {
+        let refused = with_largest(size, || (fold.inquire(many.table()), fold.commit(many.table())));
+        assert_eq!(refused, (Err(Refusal::TableFull), Err(Refusal::TableFull)));
+        assert_eq!((fold.table().times.len(), fold.still_needed().count()), (0, 1000));
+    }
+    // The inquiry has had the memory for the commit.
+    assert!(fold.inquire(many.table()).is_ok());
+    let left = with_largest(0, || fold.commit(many.table()));
+    assert_eq!(left.map(|left| left.items), Ok(1000));
+}
+
+/// More room than needed is taken only where it can be had.
+#[test]
+fn room_ahead_is_not_needed() {
+    let many = Records::new(1000);
+    let mut fold = needing(&many);
+    let part = |from: usize, to: usize| Table {
+        times: &many.times[from..to],
+        ids: &many.ids[32 * from..32 * to],
+    };
+    fold.commit(part(0, 900)).unwrap();
+    let left = with_largest(32 * 910, || fold.commit(part(900, 910)));
+    assert_eq!(left.map(|left| left.items), Ok(910));
+    let asked = largest_asked(|| fold.commit(part(910, 911)));
+    assert!(asked > 32 * 1500, "{asked}");
+    assert_eq!(largest_asked(|| fold.commit(part(911, 1000))), 0);
+}
+
+#[test]
+fn a_copy_of_the_table_needs_memory() {
+    let many = Records::new(1000);
+    let mut opener = Opener::open(NONE, LISTS).unwrap();
+    let mut responder = Responder::new(many.table(), LISTS);
+    opener.take(responder.answer(opener.query().unwrap()).unwrap()).unwrap();
+    assert_eq!(
+        with_largest(TOO_SMALL, || opener.fold().err()),
+        Some(Refusal::TableFull)
+    );
+    assert_eq!(opener.fold().map(|fold| fold.still_needed().count()).ok(), Some(1000));
 }

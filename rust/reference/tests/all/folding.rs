@@ -335,7 +335,7 @@ fn two_tables(random: &mut Random, count: usize) -> [Vec<Item>; 2] {
     tables
 }
 
-/// Whole sessions, and the needed items delivered by parts: the table becomes the union of both.
+/// Whole sessions, and the needed items handed over by parts: the table becomes the union of both.
 #[test]
 fn unions() {
     for seed in 0..60 {
@@ -354,7 +354,7 @@ fn unions() {
             let batch = Lent::new(&part);
             (call.batch_times, call.batch_ids) = (batch.times, batch.ids);
             assert_eq!(call.fold(), told(part.len(), left.len()));
-            // A batch that was delivered is not due any more.
+            // A batch that has entered is not due any more.
             assert_eq!(call.clone().fold().is_err(), !part.is_empty());
         }
         assert!(call.table().into_iter().eq(union));

@@ -1,6 +1,6 @@
 //! The two implementations behind one interface: the library, and the independent reference.
 use crate::raw;
-use recon::{Bound, Cut, Refusal, RunLabel, Sent, Session, Table};
+use recon::{Bound, Committed, Cut, Inquiry, Refusal, RunLabel, Sent, Session, Table};
 
 #[derive(Clone, Copy, Debug, PartialEq, Eq)]
 pub enum Call {
@@ -67,6 +67,29 @@ impl TreeCall {
     }
 }
 
+/// A call of folding in.
+#[derive(Clone, Copy, Debug, PartialEq, Eq)]
+pub enum FoldCall {
+    Inquire,
+    Commit,
+}
+
+impl FoldCall {
+    pub const ALL: [FoldCall; 2] = [FoldCall::Inquire, FoldCall::Commit];
+
+    pub fn name(self) -> &'static str {
+        match self {
+            FoldCall::Inquire => "fold inquire",
+            FoldCall::Commit => "fold commit",
+        }
+    }
+
+    /// Whether the specification lets the calls refuse by this number.
+    pub fn can_refuse_by(number: u8) -> bool {
+        matches!(number, 1 | 2 | 4 | 15..=17)
+    }
+}
+
 /// All that a call is lent. An opening has no message and no session, and an answer no marks and no needed buffer.
 pub struct Lent<'a> {
     pub table: Table<'a>,
@@ -124,6 +147,43 @@ pub struct GivenItem<'a> {
 /// The label of a run, or the number of a refusal.
 pub type RunOutcome = Result<RunLabel, u8>;
 
+/// All that an inquiry or a commit is lent. An inquiry has no leave to write, which is checked.
+pub struct FoldLent<'a> {
+    pub times: &'a mut [u64],
+    pub ids: &'a mut [u8],
+    pub items: usize,
+    pub session: Session,
+    pub needed: &'a mut [u8],
+    pub batch: Table<'a>,
+}
+
+impl FoldLent<'_> {
+    /// What stands beside a refusal: nothing would enter or stay, or count and session as they were handed over.
+    pub fn beside_refusal(&self, call: FoldCall) -> FoldAnswer {
+        let (entering, staying, items, session) = (0, 0, self.items, self.session);
+        match call {
+            FoldCall::Inquire => FoldAnswer::Inquired(Inquiry { entering, staying }),
+            FoldCall::Commit => FoldAnswer::Committed(Committed { items, session }),
+        }
+    }
+}
+
+/// What an inquiry or a commit answers beside the number of a refusal.
+#[derive(Clone, Copy, Debug, PartialEq, Eq)]
+pub enum FoldAnswer {
+    Inquired(Inquiry),
+    Committed(Committed),
+}
+
+/// A refusal of an inquiry or a commit.
+#[derive(Clone, Copy, Debug, PartialEq, Eq)]
+pub struct FoldRefused {
+    pub number: u8,
+    pub beside: FoldAnswer,
+}
+
+pub type FoldOutcome = Result<FoldAnswer, FoldRefused>;
+
 pub trait Calls {
     fn name(&self) -> &'static str;
     fn run(&self, call: Call, lent: &mut Lent<'_>) -> Outcome;
@@ -133,6 +193,7 @@ pub trait Calls {
     /// The table is the one before the item.
     fn tree_append(&self, table: Table<'_>, item: GivenItem<'_>, tree: &mut [u8]) -> Result<(), u8>;
     fn tree_label(&self, tree: &[u8], from: usize, to: usize) -> RunOutcome;
+    fn fold(&self, call: FoldCall, lent: &mut FoldLent<'_>) -> FoldOutcome;
 }
 
 /// The session that a refused opening hands back: nothing is reported, and it is not done.
@@ -206,6 +267,27 @@ impl Calls for Library {
         );
         result
     }
+
+    fn fold(&self, call: FoldCall, lent: &mut FoldLent<'_>) -> FoldOutcome {
+        safe_fold(call, lent).map_err(|refusal| {
+            // As with the calls of a session.
+            let (number, beside) = raw::fold(call, lent);
+            assert_eq!(number, refusal.number(), "the C call refuses as the safe call does");
+            let number = small(number);
+            FoldRefused { number, beside }
+        })
+    }
+}
+
+fn safe_fold(call: FoldCall, lent: &mut FoldLent<'_>) -> Result<FoldAnswer, Refusal> {
+    let FoldLent {
+        items, session, batch, ..
+    } = *lent;
+    let (times, ids, needed) = (&mut *lent.times, &mut *lent.ids, &mut *lent.needed);
+    match call {
+        FoldCall::Inquire => recon::fold_inquire(times, ids, items, session, needed, batch).map(FoldAnswer::Inquired),
+        FoldCall::Commit => recon::fold_commit(times, ids, items, session, needed, batch).map(FoldAnswer::Committed),
+    }
 }
 
 fn safe_call(call: Call, lent: &mut Lent<'_>) -> Result<Sent, Refusal> {
@@ -262,11 +344,7 @@ impl Calls for Reference {
             session,
             ..
         } = *lent;
-        let given = reference::Session {
-            marked: session.marked,
-            needed: session.needed,
-            done: session.done,
-        };
+        let given = reference_session(session);
         let (marks, needed, out) = (&mut *lent.marks, &mut *lent.needed, &mut *lent.out);
         let result = match call {
             Call::Open => reference::open_within(times, ids, b, t, bytes, marks, needed, out),
@@ -297,6 +375,42 @@ impl Calls for Reference {
     fn tree_label(&self, tree: &[u8], from: usize, to: usize) -> RunOutcome {
         reference::tree_label(tree, from, to).map(run_label)
     }
+
+    fn fold(&self, call: FoldCall, lent: &mut FoldLent<'_>) -> FoldOutcome {
+        let beside = lent.beside_refusal(call);
+        let FoldLent { items, batch, .. } = *lent;
+        let given = reference_session(lent.session);
+        let (times, ids, needed) = (&mut *lent.times, &mut *lent.ids, &mut *lent.needed);
+        let answer = match call {
+            FoldCall::Inquire => {
+                reference::fold_inquire(times, ids, items, given, needed, batch.times, batch.ids).map(inquired)
+            }
+            FoldCall::Commit => {
+                reference::fold_commit(times, ids, items, given, needed, batch.times, batch.ids).map(committed)
+            }
+        };
+        answer.map_err(|number| FoldRefused { number, beside })
+    }
+}
+
+fn inquired(told: reference::Inquiry) -> FoldAnswer {
+    let reference::Inquiry { entering, staying } = told;
+    FoldAnswer::Inquired(Inquiry { entering, staying })
+}
+
+fn committed(left: reference::Committed) -> FoldAnswer {
+    let (items, session) = (left.items, safe_session(left.session));
+    FoldAnswer::Committed(Committed { items, session })
+}
+
+fn reference_session(session: Session) -> reference::Session {
+    let Session { marked, needed, done } = session;
+    reference::Session { marked, needed, done }
+}
+
+fn safe_session(session: reference::Session) -> Session {
+    let reference::Session { marked, needed, done } = session;
+    Session { marked, needed, done }
 }
 
 fn run_label(run: reference::RunLabel) -> RunLabel {
@@ -308,10 +422,9 @@ fn run_label(run: reference::RunLabel) -> RunLabel {
 }
 
 fn sent(sent: reference::Sent) -> Sent {
-    let reference::Session { marked, needed, done } = sent.session;
     Sent {
         length: sent.length,
-        session: Session { marked, needed, done },
+        session: safe_session(sent.session),
     }
 }
 

@@ -1,5 +1,6 @@
 //! Compares one call of two implementations: the answers, and every byte of all that was lent.
 use crate::calls::{Call, Calls, GivenBound, Reference, Refused, RunOutcome, TreeCall};
+use crate::fold::{self, FoldAfter, FoldInput};
 use crate::guard::Side;
 use crate::input::{After, Input, Regions};
 use crate::show;
@@ -10,20 +11,25 @@ use std::fmt::Debug;
 /// A check: what it gives, or what differs.
 pub type Check<T = ()> = Result<T, String>;
 
+/// How often each of some calls gave each number, 0 for no refusal.
+pub type Tally<const CALLS: usize> = [[u64; 18]; CALLS];
+
 /// What was compared.
 #[derive(Clone, Default)]
 pub struct Counts {
     pub cases: u64,
-    /// Calls compared, those of fingerprints, digests and trees included.
+    /// Calls compared, those of fingerprints, digests, trees and folding in included.
     pub calls: u64,
     /// Those of them with every slice beside an inaccessible page.
     pub guarded: u64,
-    /// How often each call without a byte limit gave each number, 0 for no refusal.
-    pub numbers: [[u64; 15]; 3],
-    /// The same for those with a byte limit.
-    pub limited_numbers: [[u64; 15]; 3],
-    /// The same for the calls on trees.
-    pub tree_numbers: [[u64; 15]; 3],
+    /// Of the calls of a session without a byte limit.
+    pub numbers: Tally<3>,
+    /// Of those with a byte limit.
+    pub limited_numbers: Tally<3>,
+    /// Of the calls on trees.
+    pub tree_numbers: Tally<3>,
+    /// Of inquiries and commits.
+    pub fold_numbers: Tally<2>,
     /// Messages that a byte limit cut short.
     pub short: u64,
     /// Those of them that have a part of a list.
@@ -44,6 +50,10 @@ pub struct Counts {
     pub full_rows: u64,
     /// Differences that stayed unreported, each inside a compared range with equal fingerprints.
     pub excused: u64,
+    /// Commits after sessions, as long as ids were needed.
+    pub commits: u64,
+    /// Tables that became the union of both by these.
+    pub unions: u64,
 }
 
 impl Counts {
@@ -61,15 +71,18 @@ impl Counts {
         self.short += other.short;
         self.short_lists += other.short_lists;
         self.short_sessions += other.short_sessions;
-        for (sums, counts) in [
-            (&mut self.numbers, &other.numbers),
-            (&mut self.limited_numbers, &other.limited_numbers),
-            (&mut self.tree_numbers, &other.tree_numbers),
-        ] {
-            let pairs = sums.iter_mut().flatten().zip(counts.iter().flatten());
-            pairs.for_each(|(sum, count)| *sum += count);
-        }
+        self.commits += other.commits;
+        self.unions += other.unions;
+        add_tally(&mut self.numbers, &other.numbers);
+        add_tally(&mut self.limited_numbers, &other.limited_numbers);
+        add_tally(&mut self.tree_numbers, &other.tree_numbers);
+        add_tally(&mut self.fold_numbers, &other.fold_numbers);
     }
+}
+
+fn add_tally<const CALLS: usize>(sums: &mut Tally<CALLS>, counts: &Tally<CALLS>) {
+    let pairs = sums.iter_mut().flatten().zip(counts.iter().flatten());
+    pairs.for_each(|(sum, count)| *sum += count);
 }
 
 /// The two implementations, and memory for the slices that are lent to the first.
@@ -223,6 +236,23 @@ impl<'a> Comparer<'a> {
             .and_then(|()| first.map_or(Ok(()), |run| check_run(tree, from, to, run)))
             .map_err(told)?;
         self.counts.tree_numbers[TreeCall::Run as usize][usize::from(first.err().unwrap_or(0))] += 1;
+        Ok(first)
+    }
+
+    /// An inquiry or a commit with both implementations; what both answer.
+    pub fn fold(&mut self, input: &FoldInput<'_>) -> Check<FoldAfter> {
+        let ((first, unchanged), (second, _)) = self.both(
+            || show::fold(input),
+            |regions, calls, side| regions.fold(calls, input, side),
+            |calls| (input.run(calls), true),
+        );
+        self.show_outcomes(first.outcome, second.outcome);
+        let names = format!("{} and {}", self.first.name(), self.second.name());
+        fold::compare(&first, &second, &names)
+            .and_then(|()| check_read(unchanged))
+            .and_then(|()| input.check(&first))
+            .map_err(|text| format!("{}: {}", input.call.name(), text))?;
+        self.counts.fold_numbers[input.call as usize][usize::from(first.number())] += 1;
         Ok(first)
     }
 }

@@ -1,10 +1,12 @@
 //! The reference with damage on purpose, for the self-check.
 use crate::calls::{Call, Calls, GivenBound, GivenItem, Lent, Outcome, Reference, Refused, RunOutcome, TreeCall};
+use crate::calls::{FoldAnswer, FoldCall, FoldLent, FoldOutcome};
+use crate::fold_trials::FoldMade;
 use crate::guard::{touch_beyond, Side};
 use crate::input::Input;
 use crate::tree::TreeInput;
 use crate::within_trials::{rewrite, Short};
-use recon::{Sent, Table};
+use recon::{Committed, Inquiry, Sent, Table};
 
 /// What an undamaged call did, and what was lent to it before.
 pub struct Made<'a, 'b> {
@@ -75,7 +77,16 @@ pub enum Damage {
     AnyTree(fn(&TreeInput<'_>, &mut [u8], &mut Result<(), u8>)),
     /// Spoils the label of the run from one place of a tree to below another.
     Run(fn(&[u8], (usize, usize), &mut RunOutcome)),
-    /// Reads a byte before or behind the out buffer, or the tree of a build or an append.
+    /// Changes what an inquiry or a commit is lent before it is made.
+    FoldLent(fn(&mut FoldLent<'_>)),
+    /// Spoils what an inquiry told that was not refused.
+    Inquired(fn(&mut FoldMade<'_, '_>, &mut Inquiry)),
+    /// Spoils what a commit left that was not refused.
+    Committed(fn(&mut FoldMade<'_, '_>, &mut Committed)),
+    /// Spoils what an inquiry or a commit did, refused or not.
+    Fold(fn(&mut FoldMade<'_, '_>)),
+    /// Reads a byte before or behind the out buffer, the tree of a build or an append, or the needed buffer of an inquiry
+    /// or a commit.
     Beyond(Side),
 }
 
@@ -162,5 +173,28 @@ impl Calls for Damaged {
             spoil(tree, (from, to), &mut result);
         }
         result
+    }
+
+    fn fold(&self, call: FoldCall, lent: &mut FoldLent<'_>) -> FoldOutcome {
+        let change = match self.0 {
+            Damage::FoldLent(change) => change,
+            _ => |_: &mut FoldLent<'_>| {},
+        };
+        let mut made = FoldMade::new(call, lent, change);
+        match (self.0, made.outcome) {
+            (Damage::Inquired(spoil), Ok(FoldAnswer::Inquired(mut told))) => {
+                spoil(&mut made, &mut told);
+                made.outcome = Ok(FoldAnswer::Inquired(told));
+            }
+            (Damage::Committed(spoil), Ok(FoldAnswer::Committed(mut left))) => {
+                spoil(&mut made, &mut left);
+                made.outcome = Ok(FoldAnswer::Committed(left));
+            }
+            (Damage::Fold(spoil), _) => spoil(&mut made),
+            (Damage::Renumber(from, to), _) => made.renumber(from, to),
+            (Damage::Beyond(side), _) => touch_beyond(made.lent.needed, side),
+            _ => {}
+        }
+        made.outcome
     }
 }

@@ -1,5 +1,6 @@
 //! What a call is handed and what it leaves, and the making of a call on copies of it.
-use crate::calls::{Call, Calls, GivenBound, GivenItem, Lent, Outcome, RunOutcome};
+use crate::calls::{Call, Calls, FoldLent, GivenBound, GivenItem, Lent, Outcome, RunOutcome};
+use crate::fold::{FoldAfter, FoldInput};
 use crate::guard::{Region, Side, ROOM};
 use crate::tree::{TreeAfter, TreeInput};
 use recon::{Cut, Session, Table};
@@ -136,6 +137,7 @@ pub struct Regions {
     marks: Region,
     needed: Region,
     out: Region,
+    batch_times: Region,
 }
 
 fn place_table<'a>(times: &'a mut Region, ids: &'a mut Region, table: Table<'_>, side: Side) -> Table<'a> {
@@ -158,6 +160,7 @@ impl Regions {
             marks: Region::new(),
             needed: Region::new(),
             out: Region::new(),
+            batch_times: Region::new(),
         }
     }
 
@@ -240,6 +243,35 @@ impl Regions {
         let placed = self.out.place(tree, side);
         let result = calls.tree_label(placed, from, to);
         Some((result, placed == tree))
+    }
+
+    /// An inquiry or a commit in the same way; the flag is that of the batch.
+    pub fn fold(&mut self, calls: &dyn Calls, input: &FoldInput<'_>, side: Side) -> Option<(FoldAfter, bool)> {
+        let table = Table {
+            times: input.times,
+            ids: input.ids,
+        };
+        if !table_fits(table) || !table_fits(input.batch) || input.needed.len() > ROOM {
+            return None;
+        }
+        let batch = place_table(&mut self.batch_times, &mut self.message, input.batch, side);
+        let mut lent = FoldLent {
+            times: self.times.place_times(input.times, side),
+            ids: self.ids.place(input.ids, side),
+            items: input.items,
+            session: input.session,
+            needed: self.needed.place(input.needed, side),
+            batch,
+        };
+        let outcome = calls.fold(input.call, &mut lent);
+        let after = FoldAfter {
+            outcome,
+            times: lent.times.to_vec(),
+            ids: lent.ids.to_vec(),
+            needed: lent.needed.to_vec(),
+        };
+        let unchanged = batch.times == input.batch.times && batch.ids == input.batch.ids;
+        Some((after, unchanged))
     }
 
     /// The digest in the same way.

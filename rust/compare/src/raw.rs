@@ -1,8 +1,7 @@
-//! The C calls where they can say more than the safe crate: the session and the label beside a refusal, and a prefix at
-//! infinity.
+//! The C calls where they can say more than the safe crate: what stands beside a refusal, and a prefix at infinity.
 //! Declared as in include/recon.h.
-use crate::calls::{Call, GivenBound, Lent};
-use recon::{Label, RunLabel, Session, Table};
+use crate::calls::{Call, FoldAnswer, FoldCall, FoldLent, GivenBound, Lent};
+use recon::{Committed, Inquiry, Label, RunLabel, Session, Table};
 
 #[repr(C)]
 #[derive(Clone, Copy)]
@@ -36,6 +35,34 @@ struct CTreeAnswer {
     refusal: u64,
     label: CLabel,
     visited: u64,
+}
+
+#[repr(C)]
+struct CInquiryAnswer {
+    refusal: u64,
+    entering: usize,
+    staying: usize,
+}
+
+#[repr(C)]
+struct CCommitAnswer {
+    refusal: u64,
+    items: usize,
+    session: CSession,
+}
+
+impl From<Session> for CSession {
+    fn from(session: Session) -> CSession {
+        let Session { marked, needed, done } = session;
+        CSession { marked, needed, done }
+    }
+}
+
+impl From<CSession> for Session {
+    fn from(session: CSession) -> Session {
+        let CSession { marked, needed, done } = session;
+        Session { marked, needed, done }
+    }
 }
 
 #[rustfmt::skip]
@@ -72,6 +99,16 @@ extern "C" {
         upper_infinite: bool, upper_time: u64, upper_prefix: *const u8, upper_prefix_len: usize, out: *mut u8,
     ) -> u64;
     fn recon_tree_label(tree: *const u8, tree_len: usize, from: usize, to: usize) -> CTreeAnswer;
+    fn recon_fold_inquire(
+        times: *const u64, times_len: usize, ids: *const u8, ids_len: usize, items: usize, session: CSession,
+        needed: *const u8, needed_len: usize, batch_times: *const u64, batch_times_len: usize,
+        batch_ids: *const u8, batch_ids_len: usize,
+    ) -> CInquiryAnswer;
+    fn recon_fold_commit(
+        times: *mut u64, times_len: usize, ids: *mut u8, ids_len: usize, items: usize, session: CSession,
+        needed: *mut u8, needed_len: usize, batch_times: *const u64, batch_times_len: usize,
+        batch_ids: *const u8, batch_ids_len: usize,
+    ) -> CCommitAnswer;
 }
 
 /// The number and the session that a C call answers with.
@@ -82,16 +119,14 @@ pub struct Told {
 
 impl Told {
     fn of(refusal: u64, session: CSession) -> Told {
-        let CSession { marked, needed, done } = session;
-        let session = Session { marked, needed, done };
+        let session = session.into();
         Told { refusal, session }
     }
 }
 
 /// Makes a C call. An answer has no session: the one that was lent is told.
 pub fn run(call: Call, lent: &mut Lent<'_>) -> Told {
-    let Session { marked, needed, done } = lent.session;
-    let session = CSession { marked, needed, done };
+    let session = lent.session.into();
     match (call, lent.bytes) {
         (Call::Open, None) => open(lent),
         (Call::Open, Some(bytes)) => open_within(lent, bytes),
@@ -209,4 +244,41 @@ pub fn tree_label(tree: &[u8], from: usize, to: usize) -> (u64, RunLabel) {
     let label = Label { sum, count };
     let visited = answer.visited;
     (answer.refusal, RunLabel { label, visited })
+}
+
+/// The C calls of folding in: the refusal or 0, and what stands beside it.
+pub fn fold(call: FoldCall, lent: &mut FoldLent<'_>) -> (u64, FoldAnswer) {
+    match call {
+        FoldCall::Inquire => inquire(lent),
+        FoldCall::Commit => commit(lent),
+    }
+}
+
+#[rustfmt::skip]
+fn inquire(lent: &FoldLent<'_>) -> (u64, FoldAnswer) {
+    let Table { times, ids } = lent.batch;
+    // SAFETY: see above.
+    let answer = unsafe {
+        recon_fold_inquire(
+            lent.times.as_ptr(), lent.times.len(), lent.ids.as_ptr(), lent.ids.len(), lent.items, lent.session.into(),
+            lent.needed.as_ptr(), lent.needed.len(), times.as_ptr(), times.len(), ids.as_ptr(), ids.len(),
+        )
+    };
+    let CInquiryAnswer { refusal, entering, staying } = answer;
+    (refusal, FoldAnswer::Inquired(Inquiry { entering, staying }))
+}
+
+#[rustfmt::skip]
+fn commit(lent: &mut FoldLent<'_>) -> (u64, FoldAnswer) {
+    let Table { times, ids } = lent.batch;
+    // SAFETY: see above.
+    let answer = unsafe {
+        recon_fold_commit(
+            lent.times.as_mut_ptr(), lent.times.len(), lent.ids.as_mut_ptr(), lent.ids.len(), lent.items,
+            lent.session.into(), lent.needed.as_mut_ptr(), lent.needed.len(),
+            times.as_ptr(), times.len(), ids.as_ptr(), ids.len(),
+        )
+    };
+    let (items, session) = (answer.items, answer.session.into());
+    (answer.refusal, FoldAnswer::Committed(Committed { items, session }))
 }

@@ -1,5 +1,5 @@
 //! Runs the cases of all kinds, or one of them, on the library and the reference, and prints what was compared.
-use crate::calls::{Call, Library, Reference, TreeCall};
+use crate::calls::{Call, FoldCall, Library, Reference, TreeCall};
 use crate::compare::{Comparer, Counts};
 use crate::kinds::{Kind, Label, KINDS};
 use std::time::{Duration, Instant};
@@ -133,10 +133,15 @@ fn numbers(totals: &Counts) -> Vec<Numbers<'_>> {
         let counts = &totals.tree_numbers[call as usize];
         Numbers::new(call.name(), counts, |number| call.can_refuse_by(number))
     });
-    calls.chain(limited_calls).chain(tree_calls).collect()
+    let fold_calls = FoldCall::ALL.iter().map(|&call| {
+        let counts = &totals.fold_numbers[call as usize];
+        Numbers::new(call.name(), counts, FoldCall::can_refuse_by)
+    });
+    let calls = calls.chain(limited_calls).chain(tree_calls);
+    calls.chain(fold_calls).collect()
 }
 
-/// How often each call gave each number, and what sessions and trees came to.
+/// How often each call gave each number, and what sessions, trees and commits came to.
 fn print_totals(totals: &Counts) {
     numbers(totals).iter().for_each(Numbers::print);
     println!(
@@ -152,9 +157,14 @@ fn print_totals(totals: &Counts) {
         "{} runs of trees with the label summed item by item; {} appends with the tree built afresh",
         totals.summed, totals.rebuilt
     );
+    println!(
+        "{} commits after sessions, which made {} tables the union of both",
+        totals.commits, totals.unions
+    );
 }
 
-/// Whether every number that a call can give has come up and no other, and all that sessions and trees are to show.
+/// Whether every number that a call can give has come up and no other, and all that sessions, trees and commits are to
+/// show.
 fn all_came_up(totals: &Counts) -> bool {
     if !numbers(totals).iter().all(Numbers::came_up) {
         return false;
@@ -170,9 +180,11 @@ fn all_came_up(totals: &Counts) -> bool {
         totals.short,
         totals.short_lists,
         totals.short_sessions,
+        totals.commits,
+        totals.unions,
     ];
     if shown.contains(&0) {
-        println!("FAILED: something never came up that the sessions and trees are meant to show");
+        println!("FAILED: something never came up that sessions, trees and commits are meant to show");
         return false;
     }
     true

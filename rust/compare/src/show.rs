@@ -1,5 +1,6 @@
 //! Inputs as text, in full.
 use crate::calls::{Call, GivenBound, TreeCall};
+use crate::fold::FoldInput;
 use crate::input::Input;
 use crate::tree::TreeInput;
 use recon::Table;
@@ -77,4 +78,14 @@ pub fn tree(input: &TreeInput<'_>) -> String {
 pub fn tree_run(tree: &[u8], from: usize, to: usize) -> String {
     let name = TreeCall::Run.name();
     format!("{} from {} to {}\n  tree: {}\n", name, from, to, bytes(tree))
+}
+
+pub fn fold(input: &FoldInput<'_>) -> String {
+    let buffers = Table {
+        times: input.times,
+        ids: input.ids,
+    };
+    let mut text = format!("{}\n{}  items {}\n", input.call.name(), table(buffers), input.items);
+    text += &format!("  {:?}\n  needed: {}\n", input.session, bytes(input.needed));
+    text + &format!("  batch:\n{}", table(input.batch))
 }

@@ -1,6 +1,7 @@
 //! The damages of the self-check, each with the kind of cases that has to find it.
 use crate::calls::{Call, Outcome};
 use crate::damage::{Damage, Made};
+use crate::fold_trials;
 use crate::guard::Side;
 use crate::tree_trials;
 use crate::within_trials;
@@ -62,6 +63,7 @@ pub fn one_sided() -> Vec<Trial> {
         wrong_hashes(),
         tree_trials::one_sided(),
         within_trials::one_sided(),
+        fold_trials::one_sided(),
     ];
     lists.into_iter().flatten().chain(renumbered).collect()
 }
@@ -321,6 +323,7 @@ pub fn both_sided() -> Vec<Trial> {
     let mut trials = wrong_reports();
     trials.extend(tree_trials::both_sided());
     trials.extend(within_trials::both_sided());
+    trials.extend(fold_trials::both_sided());
     trials.extend([
         trial("examples", "differ at 0", "open writes another version", open(|made, _| flip(made.lent.out, 0))),
         trial("examples", both, "a bad bound is refused by 10", Damage::Renumber(9, 10)),
@@ -411,9 +414,11 @@ const fn beyond(name: &'static str, kind: &'static str, side: Side) -> Beyond {
     Beyond { name, kind, side }
 }
 
-pub const BEYOND: [Beyond; 4] = [
+pub const BEYOND: [Beyond; 6] = [
     beyond("behind the out buffer", "tables", Side::End),
     beyond("before the out buffer", "tables", Side::Start),
     beyond("behind the tree", "trees", Side::End),
     beyond("before the tree", "trees", Side::Start),
+    beyond("behind the needed buffer", "fold", Side::End),
+    beyond("before the needed buffer", "fold", Side::Start),
 ];

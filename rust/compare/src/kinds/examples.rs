@@ -1,8 +1,9 @@
 //! The worked examples of the specification by number, and others that show how it is read.
-use super::Case;
+use super::{expect_number, Case};
 use crate::calls::{Call, GivenBound, GivenItem};
 use crate::compare::{same_bytes, Check};
 use crate::exchange::{End, Ends, Exchange};
+use crate::fold_faults::FoldDraft;
 use crate::generate::{from_text, id_from, Item, OwnedTable};
 use crate::input::{After, NEW_SESSION};
 use crate::tree::TreeInput;
@@ -10,7 +11,7 @@ use recon::{Cut, Session};
 
 type Example = fn(&mut Case<'_, '_>) -> Check;
 
-const EXAMPLES: [(&str, Example); 17] = [
+const EXAMPLES: [(&str, Example); 20] = [
     ("E1, varints", varints),
     ("E3, the empty table", empty_table),
     ("E4, different times", |case| opening(case, [5, 5, 7], "08 00")),
@@ -28,6 +29,9 @@ const EXAMPLES: [(&str, Example); 17] = [
     ("skips in answers", skips),
     ("replies that say little", short_replies),
     ("128 ids and byte limits", byte_limits),
+    ("E21, a batch of two items", batch_of_two),
+    ("E22, batches with an id under two times", batches_under_two_times),
+    ("E23, refused batches", refused_batches),
 ];
 
 /// Messages and the number that reading them gives, 0 for none: examples of the specification, or what they are about.
@@ -406,4 +410,63 @@ fn byte_limits(case: &mut Case<'_, '_>) -> Check {
         }
     }
     Ok(())
+}
+
+/// A batch for the table of (5, 01) and (7, 03) in buffers for so many items, with 02, 03 and 04 needed.
+fn batch(items: &[(u64, u8)], room: usize) -> FoldDraft {
+    let own = table(&[(5, &[1]), (7, &[3])]);
+    let batch: Vec<Item> = items.iter().map(|(time, first)| (*time, id_from(&[*first]))).collect();
+    let session = Session {
+        marked: 7,
+        needed: 3,
+        done: true,
+    };
+    let mut draft = FoldDraft::new(&own, session, &ids(&[2, 3, 4]), &OwnedTable::of(&batch));
+    draft.times.resize(room, 1_000);
+    draft.ids.resize(32 * room, 0xcc);
+    draft
+}
+
+fn ids(first: &[u8]) -> Vec<u8> {
+    first.iter().flat_map(|first| id_from(&[*first])).collect()
+}
+
+/// What both calls leave of a batch: these times and ids, and these needed bytes, of which so many ids are the list.
+fn folded(case: &mut Case<'_, '_>, draft: &FoldDraft, table: (&[u64], &[u8]), needed: (&[u8], usize)) -> Check {
+    let after = case.fold(&draft.input())?;
+    expect_number(after.number(), 0)?;
+    if after.times != table.0 {
+        return Err(format!("times {:?} expected, both say {:?}", table.0, after.times));
+    }
+    same(&after.ids, &ids(table.1), "the ids and the expected ones")?;
+    same(&after.needed, &ids(needed.0), "the needed bytes and the expected ones")?;
+    match after.committed() {
+        Some(left) if (left.items, left.session.needed) == (table.0.len(), needed.1) => Ok(()),
+        left => Err(format!("{} ids expected, both say {:?}", needed.1, left)),
+    }
+}
+
+fn batch_of_two(case: &mut Case<'_, '_>) -> Check {
+    let draft = batch(&[(5, 2), (7, 4)], 4);
+    folded(case, &draft, (&[5, 5, 7, 7], &[1, 2, 3, 4]), (&[3, 3, 4], 1))
+}
+
+/// Under two times in the batch, and in the table under another time.
+fn batches_under_two_times(case: &mut Case<'_, '_>) -> Check {
+    let twice = batch(&[(6, 2), (8, 2)], 4);
+    folded(case, &twice, (&[5, 6, 7, 8], &[1, 2, 3, 2]), (&[3, 4, 4], 2))?;
+    let other_time = batch(&[(9, 3)], 3);
+    folded(case, &other_time, (&[5, 7, 9], &[1, 3, 3]), (&[2, 4, 4], 2))
+}
+
+fn refused_batches(case: &mut Case<'_, '_>) -> Check {
+    let mut not_done = batch(&[(5, 2), (7, 4)], 4);
+    not_done.session.done = false;
+    case.expect_fold(&not_done.input(), 15)?;
+    case.expect_fold(&batch(&[(6, 5)], 4).input(), 16)?;
+    case.expect_fold(&batch(&[(7, 3)], 4).input(), 16)?;
+    case.expect_fold(&batch(&[(5, 2), (7, 4)], 3).input(), 17)?;
+    let mut odd = batch(&[(5, 2), (7, 4)], 4);
+    odd.needed.pop();
+    case.expect_fold(&odd.input(), 4).map(|_| ())
 }

@@ -38,7 +38,7 @@ pub fn run(case: &mut Case<'_, '_>) -> Check {
 }
 
 /// Rising times, three items for each, and ids that rise in their first bytes.
-fn table(case: &mut Case<'_, '_>, count: usize) -> OwnedTable {
+pub fn table(case: &mut Case<'_, '_>, count: usize) -> OwnedTable {
     let mut ids = case.rng.bytes(32 * count);
     for (number, id) in ids.chunks_exact_mut(32).enumerate() {
         id[..4].copy_from_slice(&(number as u32).to_be_bytes());

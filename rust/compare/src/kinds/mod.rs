@@ -3,8 +3,10 @@ mod damaged;
 mod digests;
 mod examples;
 mod fingerprints;
+mod fold;
 mod limits;
 mod lists;
+mod merges;
 mod refusals;
 mod room;
 mod sessions;
@@ -13,7 +15,9 @@ mod trees;
 mod versions;
 mod within;
 
+use crate::calls::FoldCall;
 use crate::compare::{Check, Comparer};
+use crate::fold::{agree, FoldAfter, FoldInput};
 use crate::guard;
 use crate::input::{After, Input};
 use crate::rng::Rng;
@@ -41,6 +45,22 @@ impl Case<'_, '_> {
     pub fn expect_tree(&mut self, input: &TreeInput<'_>, number: u8) -> Check<TreeAfter> {
         let after = self.comparer.tree(input)?;
         expect_number(after.number(), number)?;
+        Ok(after)
+    }
+
+    /// An inquiry and a commit of the same input, which have to agree; what the commit leaves.
+    pub fn fold(&mut self, input: &FoldInput<'_>) -> Check<FoldAfter> {
+        let inquiry = self.comparer.fold(&input.of(FoldCall::Inquire))?;
+        let commit = self.comparer.fold(&input.of(FoldCall::Commit))?;
+        agree(input, &inquiry, &commit)?;
+        Ok(commit)
+    }
+
+    /// The same; their number has to be this one, and the merge that of the specification.
+    pub fn expect_fold(&mut self, input: &FoldInput<'_>, number: u8) -> Check<FoldAfter> {
+        let after = self.fold(input)?;
+        expect_number(after.number(), number)?;
+        input.check_merge(&after)?;
         Ok(after)
     }
 
@@ -78,6 +98,31 @@ pub fn expect_number(told: u8, expected: u8) -> Check {
     Ok(())
 }
 
+/// Cases of one sort: how many there are, and what one does, by its number.
+struct Group {
+    cases: fn(long: bool) -> usize,
+    run: fn(&mut Case<'_, '_>, usize) -> Check,
+}
+
+impl Group {
+    fn cases(groups: &[Group], long: bool) -> u64 {
+        groups.iter().map(|group| (group.cases)(long) as u64).sum()
+    }
+
+    /// Runs the case, which is of one of these groups.
+    fn run(groups: &[Group], case: &mut Case<'_, '_>) -> Check {
+        let mut index = case.index as usize;
+        for group in groups {
+            let count = (group.cases)(case.long);
+            if index < count {
+                return (group.run)(case, index);
+            }
+            index -= count;
+        }
+        Err("there is no such case".to_string())
+    }
+}
+
 pub struct Kind {
     pub name: &'static str,
     /// How many cases a run has.
@@ -95,7 +140,7 @@ macro_rules! kind {
     };
 }
 
-pub static KINDS: [Kind; 13] = [
+pub static KINDS: [Kind; 15] = [
     kind!(examples),
     kind!(refusals),
     kind!(versions),
@@ -109,6 +154,8 @@ pub static KINDS: [Kind; 13] = [
     kind!(lists),
     kind!(digests),
     kind!(trees),
+    kind!(fold),
+    kind!(merges),
 ];
 
 pub fn kind_named(name: &str) -> Option<&'static Kind> {

@@ -1,18 +1,12 @@
 //! Trees of labels: trees of every length, of any bytes, appended to until they are full, and every run of small ones;
 //! each fault of a build and an append, and each two of them at once. The label of a run is also summed item by item.
-use super::{expect_number, Case};
+use super::{expect_number, Case, Group};
 use crate::calls::{GivenItem, TreeCall};
 use crate::compare::{same_bytes, Check};
 use crate::generate::{id_from, items, whole_ids, Id, Item, OwnedTable, LAST_TIME, SHAPES};
 use crate::tree::{appended, bytes_of, places_of, places_over, Sum, TreeInput};
 use crate::tree_faults::{tree_faults_of, TreeDraft, TreeFault};
 use recon::{Label, Table, LABEL_BYTES};
-
-/// Cases of one sort: how many there are, and what one does, by its number.
-struct Group {
-    cases: fn(long: bool) -> usize,
-    run: fn(&mut Case<'_, '_>, usize) -> Check,
-}
 
 const GROUPS: [Group; 6] = [
     Group {
@@ -45,19 +39,11 @@ const GROUPS: [Group; 6] = [
 const STARTS: [usize; 18] = [0, 1, 2, 3, 4, 5, 6, 7, 9, 12, 17, 20, 33, 65, 129, 200, 257, 600];
 
 pub fn cases(long: bool) -> u64 {
-    GROUPS.iter().map(|group| (group.cases)(long) as u64).sum()
+    Group::cases(&GROUPS, long)
 }
 
 pub fn run(case: &mut Case<'_, '_>) -> Check {
-    let mut index = case.index as usize;
-    for group in &GROUPS {
-        let count = (group.cases)(case.long);
-        if index < count {
-            return (group.run)(case, index);
-        }
-        index -= count;
-    }
-    Err("there is no such case".to_string())
+    Group::run(&GROUPS, case)
 }
 
 /// A table of any shape, and its items.

@@ -136,6 +136,136 @@ for bytes in 4096 10000; do
     must "replies within $bytes" [ "$reply_bytes" -le $((replies * bytes)) ]
 done
 
+# Folding in: what a batch would do, told as the last line. The status is that of the two files.
+grep -Ff theirs-lacking theirs.txt >batch.txt
+head -n 3 batch.txt | sort -r | tr a-f A-F >three.txt
+must 'the batch has what ours lack' [ "$(wc -l <batch.txt)" -eq 7 ]
+: >empty.txt
+for batch in 'batch.txt:7 records:0 ids' 'three.txt:3 records:4 ids' 'empty.txt:0 records:7 ids'; do
+    IFS=: read -r file entering staying <<<"$batch"
+    cat "$samples/expected.txt" - >want <<<"$entering of $file would enter ours.txt, $staying would stay needed"
+    check "--fold $file" 1 --fold $file ours.txt theirs.txt
+    cat "$samples/expected.txt" - >want <<<"$entering of standard input would enter ours.txt, $staying would stay needed"
+    check "--fold - of $file" 1 ours.txt theirs.txt --fold=- <$file
+done
+for stats in '' --stats; do
+    "$samples/make-expected.py" --format tsv $stats ours.txt theirs.txt >want 2>errors
+    printf 'entering\t3\nstaying\t4\n' >>errors
+    check "--fold: tsv $stats" 1 --fold three.txt ours.txt theirs.txt --format tsv $stats
+    "$samples/make-expected.py" --format json $stats ours.txt theirs.txt | sed '$d' >want
+    sed -i '$s/$/,/' want
+    printf '"fold": {"entering": 3, "staying": 4}\n}\n' >>want
+    check "--fold: json $stats" 1 --fold three.txt ours.txt theirs.txt --format json $stats
+done
+must 'the object with fold is JSON' python3 -m json.tool got /dev/null
+check '--fold: quiet' 1 -q --fold three.txt ours.txt theirs.txt
+printf 'nothing is missing at either end\n0 records of empty.txt would enter ours.txt, 0 ids would stay needed\n' >want
+check '--fold: nothing is missing' 0 --fold empty.txt ours.txt ours.txt
+same '--fold writes no file' <(printf '%s\n' batch.txt empty.txt three.txt) <(ls batch* empty* three* merged* 2>/dev/null)
+
+# With --output the merged records are written, by time and id. The lines of a file without comments, in this order: FILE..
+by_time() { cat "$@" | grep -v '^#' | tr A-F a-f | sort -k 1,1n -k 2,2; }
+cat "$samples/expected.txt" - >want <<<'3 records of three.txt would enter ours.txt, 4 ids would stay needed'
+check '--output' 1 --fold three.txt --output merged.txt ours.txt theirs.txt
+same 'the merged records' <(by_time ours.txt three.txt) merged.txt
+sed -n 4,7p batch.txt >rest.txt
+check '--output, the rest' 1 -q --fold rest.txt --output=merged.txt merged.txt theirs.txt
+same 'the merged records, in place' <(by_time ours.txt batch.txt) merged.txt
+lacking merged.txt theirs.txt >merged-lacking
+same 'what merged records lack' /dev/null <(comm -23 <(ids_of theirs.txt) <(ids_of merged.txt))
+same 'what is left only there' ours-lacking merged-lacking
+grep -vFf ours-lacking ours.txt >fewer.txt
+check '--output, the union is theirs' 1 -q --fold batch.txt --output union.txt fewer.txt theirs.txt
+same 'the union is theirs' <(by_time theirs.txt) union.txt
+check '--output, nothing is missing' 0 -q --fold empty.txt --output same.txt union.txt theirs.txt
+same 'the same records' union.txt same.txt
+check '--output, empty files' 0 -q --fold empty.txt --output none.txt empty.txt empty.txt
+same 'no records' /dev/null none.txt
+for bytes in 4096 10000; do
+    "$program" sevens.txt fives.txt --format tsv | sed -n 's/^theirs\t-\t//p' >needed || true
+    grep -Ff needed fives.txt >batch-of-fives.txt
+    check "--output with byte limit $bytes" 1 -q --bytes $bytes --fold batch-of-fives.txt --output fold-$bytes.txt sevens.txt fives.txt
+    same "the union, with byte limit $bytes" <(by_time sevens.txt fives.txt | uniq) fold-$bytes.txt
+done
+
+# A file is replaced with its mode, over a link, and as a whole.
+chmod 640 merged.txt
+ln -s merged.txt link.txt
+check '--output over a link' 1 -q --fold three.txt --output link.txt ours.txt theirs.txt
+same 'the file behind the link' <(by_time ours.txt three.txt) merged.txt
+must 'the link stays' [ -L link.txt ]
+same 'the mode stays' <(echo 640) <(stat -c %a merged.txt)
+cp merged.txt before.txt
+# A file that cannot be written whole: the one before stays. Three blocks of 1,024 bytes are too few.
+echo 'merged.txt: File too large (os error 27)' >errors
+actual=0
+(trap '' XFSZ; ulimit -f 3; exec "$program" -q --fold batch.txt --output merged.txt ours.txt theirs.txt 2>got-errors) || actual=$?
+same 'a file too large: errors' errors got-errors
+same 'a file too large: exit status' <(echo 2) <(echo "$actual")
+same 'a file too large: the one before' before.txt merged.txt
+rm errors
+mkfifo fifo
+for place in fifo:'not a regular file' .:'not a regular file' none/x:'No such file or directory (os error 2)' \
+    good.txt/x:'Not a directory (os error 20)'; do
+    echo "$place" | sed 's/:/: /' >errors
+    check "--output ${place%%:*}" 2 -q --fold batch.txt --output "${place%%:*}" ours.txt theirs.txt
+done
+must 'a pipe stays' [ -p fifo ]
+
+# Nothing is done that was not shown.
+mkfifo closed
+exec 5<>closed
+exec 4>closed 5>&-
+echo 'merged.txt: not written, because the report could not be' >errors
+check_into 4 '--output, a closed pipe' 2 --fold batch.txt --output merged.txt ours.txt theirs.txt
+check_into 4 '--output, a closed pipe: json' 2 --fold batch.txt --output merged.txt ours.txt theirs.txt --format json
+rm errors
+check_into 4 '--fold, a closed pipe' 1 --fold batch.txt ours.txt theirs.txt
+check_into 4 '--output, a closed pipe: quiet' 1 -q --fold batch.txt --output closed.txt ours.txt theirs.txt
+same 'quiet needs no output' <(by_time ours.txt batch.txt) closed.txt
+exec 4>/dev/full
+echo 'reconcile: standard output: No space left on device (os error 28)' >errors
+check_into 4 '--output, a full disk' 2 --fold batch.txt --output merged.txt ours.txt theirs.txt
+rm errors
+exec 4>&-
+same 'not shown, not done' before.txt merged.txt
+same 'no part of a file is left' /dev/null <(ls | grep part)
+
+# Batches that are refused, by the first line at fault; nothing is printed or written. FILE LINE MESSAGE
+refused() {
+    echo "$1:$2: $3" >errors
+    check "refused: $1, $3" 2 --fold "$1" --output merged.txt ours.txt theirs.txt
+    same "refused: $1: the file before" before.txt merged.txt
+}
+own=$(grep -n -m 1 -v '^#' ours.txt)
+{ echo '# a comment'; cat three.txt; echo "${own#*:}"; echo "5 $a"; } >with-own.txt
+refused with-own.txt 5 "the record stands in ours.txt:${own%%:*} already"
+{ cat three.txt; echo "5 $a"; echo "4 $b"; } >unknown.txt
+refused unknown.txt 4 'the id is not needed'
+printf '5 %s\n' "$a" >first-unknown.txt
+cat ours.txt >>first-unknown.txt
+refused first-unknown.txt 1 'the id is not needed'
+sed 's/^[0-9]*/1/' three.txt >other-time.txt
+line=$(grep -n -i "$(head -n 1 three.txt | cut -d ' ' -f 2)" theirs.txt | cut -d : -f 1)
+refused other-time.txt 1 "the id stands in theirs.txt:$line with another time"
+echo "${own#*:}" | sed 's/^/1/' >our-other-time.txt
+refused our-other-time.txt 1 "the id stands in ours.txt:${own%%:*} with another time"
+echo '5 x' >bad-batch.txt
+refused bad-batch.txt 1 'the id is not 64 hex digits'
+echo 'missing.txt: No such file or directory (os error 2)' >errors
+check 'a missing batch' 2 --fold missing.txt ours.txt theirs.txt
+echo 'standard input:1: the id is not needed' >errors
+check 'a refused batch from standard input' 2 -q --fold - ours.txt theirs.txt <<<"5 $a"
+# One record more than a table can have: 1048576 records and one that they lack.
+awk 'BEGIN { for (i = 1; i <= 1048576; i++) printf "%d %064x\n", i, i }' >most.txt
+echo "5 $b" >one.txt
+echo 'one.txt: with it most.txt would have more than 1048576 records' >errors
+check 'more records than a table can have' 2 -q --fold one.txt --output merged.txt most.txt one.txt
+sed -i '$d' most.txt
+check 'as many records as a table can have' 1 -q --fold one.txt --output most.txt most.txt one.txt
+must 'as many lines' [ "$(wc -l <most.txt)" -eq 1048576 ]
+rm most.txt
+
 # Equal files, in whatever order and spelling.
 grep -v '^#' ours.txt | sort -r | tr a-f A-F | sed 's/$/\r/' >reordered.txt
 printf '\n# the end, without a line feed' >>reordered.txt
@@ -153,7 +283,6 @@ check 'equal files: json' 0 --format=json ours.txt reordered.txt
 must 'the object of empty lists is JSON' python3 -m json.tool got /dev/null
 
 # Empty files.
-: >empty.txt
 printf '# no records\n\n' >comments.txt
 cat >want <<'END'
 rounds:         1
@@ -324,12 +453,19 @@ wrong '--bytes needs a number' good.txt good.txt --bytes
 wrong '--bytes needs a number, not "4k"' good.txt good.txt --bytes=4k
 wrong '--bytes must be at least 4096, not 4095' good.txt good.txt --bytes 4095
 wrong '--bytes must be at least 4096, not 0' good.txt good.txt --bytes 0
+wrong '--fold needs a file' good.txt good.txt --fold
+wrong '--fold needs a file' good.txt good.txt --fold=
+wrong '--output needs a file' good.txt good.txt --fold good.txt --output
+wrong '--output needs --fold' good.txt good.txt --output x
+wrong '--output needs a file, not standard output' good.txt good.txt --fold good.txt --output -
+wrong 'only one of the files can be - (standard input)' - good.txt --fold -
+wrong 'two files are needed, not 1' --fold good.txt good.txt
 
 # Help and version.
 "$program" --help >help
 same 'help' <(echo 'usage: reconcile [OPTION..] OURS THEIRS') <(head -n 1 help)
 same 'help, in 80 columns' /dev/null <(grep -E '.{81}' help)
-for word in -q --quiet --stats --format --parts --limit --bytes -h --help -V --version ' -- ' text tsv json ' - ' 'exit status is 0'; do
+for word in -q --quiet --stats --format --parts --limit --bytes --fold --output -h --help -V --version ' -- ' text tsv json ' - ' 'exit status is 0'; do
     must "help on $word" grep -qFe "$word" help
 done
 for option in -h --help '--help --parts'; do

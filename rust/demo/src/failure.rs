@@ -1,10 +1,11 @@
 //! How the program ends: its exit status, and why it could not do its work.
 use crate::options::USAGE;
-use crate::records::{BadFile, TwoTimes};
+use crate::records::{BadFile, NotDue, TwoTimes};
 use crate::source::Source;
-use recon::Refusal;
+use recon::{Refusal, MAX_ITEMS};
 use std::fmt;
 use std::io::{self, ErrorKind, Write};
+use std::path::PathBuf;
 
 /// The exit status, as diff has it.
 #[derive(Clone, Copy, Debug, PartialEq, Eq)]
@@ -27,8 +28,23 @@ pub enum Failure {
         theirs: Source,
         lines: TwoTimes,
     },
+    /// A record of a batch that cannot be folded in.
+    NotDue {
+        ours: Source,
+        batch: Source,
+        record: NotDue,
+    },
+    /// With a batch there would be too many records.
+    TooMany {
+        ours: Source,
+        batch: Source,
+    },
     Refused(Refusal),
     Output(io::Error),
+    /// A file that was to be written, and stays as it was.
+    Written(PathBuf, io::Error),
+    /// A file that was to be written once the report is, and the report was not.
+    NotShown(PathBuf),
 }
 
 impl Failure {
@@ -57,8 +73,19 @@ impl fmt::Display for Failure {
                 "{theirs}:{}: the id stands in {ours}:{} with another time",
                 lines.theirs, lines.ours
             ),
+            Failure::NotDue { ours, batch, record } => match record.ours {
+                Some(line) => write!(f, "{batch}:{}: the record stands in {ours}:{line} already", record.line),
+                None => write!(f, "{batch}:{}: the id is not needed", record.line),
+            },
+            Failure::TooMany { ours, batch } => {
+                write!(f, "{batch}: with it {ours} would have more than {MAX_ITEMS} records")
+            }
             Failure::Refused(refusal) => write!(f, "reconcile: {refusal}"),
             Failure::Output(error) => write!(f, "reconcile: standard output: {error}"),
+            Failure::Written(file, error) => write!(f, "{}: {error}", file.display()),
+            Failure::NotShown(file) => {
+                write!(f, "{}: not written, because the report could not be", file.display())
+            }
         }
     }
 }
@@ -85,6 +112,20 @@ mod tests {
             failure.to_string(),
             "standard input:12: the id stands in ours.txt:7 with another time"
         );
+    }
+
+    #[test]
+    fn records_that_are_not_due_are_told_with_their_lines() {
+        let told = |ours| {
+            let failure = Failure::NotDue {
+                ours: Source::File("ours.txt".into()),
+                batch: Source::File("batch.txt".into()),
+                record: NotDue { line: 3, ours },
+            };
+            failure.to_string()
+        };
+        assert_eq!(told(None), "batch.txt:3: the id is not needed");
+        assert_eq!(told(Some(7)), "batch.txt:3: the record stands in ours.txt:7 already");
     }
 
     #[test]

@@ -1,7 +1,9 @@
 //! `reconcile OURS THEIRS` tells which records each of two files lacks, by a session between an opener that holds the
-//! first and a responder that holds the second. `reconcile --help` has the file format and the options.
+//! first and a responder that holds the second, and with `--fold` merges records into the first. `reconcile --help` has the
+//! file format and the options.
 mod exchange;
 mod failure;
+mod merged;
 mod options;
 mod progress;
 mod records;
@@ -12,12 +14,13 @@ use exchange::{exchange, Exchanged};
 use failure::{Failure, Status};
 use options::{Command, Options, Request, HELP, VERSION};
 use progress::{stderr_is_terminal, Progress};
-use recon::{Opener, Refusal, Responder};
+use recon::{Fold, Inquiry, Opener, Refusal, Responder, MAX_ITEMS};
 use records::Records;
 use report::{Difference, Report};
 use source::Source;
 use std::env;
 use std::io::{self, BufWriter, Write};
+use std::path::Path;
 use std::process::ExitCode;
 
 fn main() -> ExitCode {
@@ -37,32 +40,120 @@ fn run() -> Result<Status, Failure> {
     Ok(Status::Same)
 }
 
-/// Reads both files, runs a session between them and reports what it found.
+/// Reads the files, runs a session between the first two, and reports what it found and what folding in would do. Then the
+/// merged records are written, if they are to be: nothing is done that was not shown.
 fn reconcile(request: &Request) -> Result<Status, Failure> {
     let options = &request.options;
     let mut progress = Progress::new(io::stderr(), stderr_is_terminal() && !options.quiet);
     progress.show("reading records");
-    let (ours, theirs) = read_both(&request.ours, &request.theirs)?;
+    let Files { ours, theirs, batch } = Files::read(request)?;
     progress.show("opening");
     let (opener, exchanged) = session(&ours, &theirs, options, &mut progress).map_err(Failure::Refused)?;
-    progress.clear();
     let difference = Difference {
         ours_only: opener.ours_only().map(|(time, id)| (time, &id[..])).collect(),
         theirs_only: opener.theirs_only().map(|id| &id[..]).collect(),
     };
-    report(request, &difference, exchanged)
+    let mut folding = match &batch {
+        None => None,
+        Some((source, batch)) => {
+            let begun = Folding::begin(&opener, source, batch);
+            Some(begun.map_err(|refusal| why_refused(refusal, request, &ours, &difference, (source, batch)))?)
+        }
+    };
+    progress.clear();
+    let told = folding.as_ref().map(|folding| (folding.source, folding.told));
+    let status = report(request, &difference, exchanged, told)?;
+    match (&mut folding, &options.output) {
+        (Some(folding), Some(output)) => folding.finish(output).map(|()| status),
+        _ => Ok(status),
+    }
 }
 
-/// Reads both files. An id under two times, of which the promise of a session does not speak, is seen here alone.
-fn read_both(ours: &Source, theirs: &Source) -> Result<(Records, Records), Failure> {
-    let (our_records, their_records) = (read(ours)?, read(theirs)?);
-    match records::two_times(&our_records, &their_records) {
-        None => Ok((our_records, their_records)),
+/// The records of all files, and where a batch comes from.
+struct Files<'a> {
+    ours: Records,
+    theirs: Records,
+    batch: Option<(&'a Source, Records)>,
+}
+
+impl<'a> Files<'a> {
+    /// Reads all files. An id under two times, of which the promise of a session does not speak, is seen here alone.
+    fn read(request: &'a Request) -> Result<Files<'a>, Failure> {
+        let (ours, theirs) = (read(&request.ours)?, read(&request.theirs)?);
+        let batch = match &request.options.fold {
+            None => None,
+            Some(source) => Some((source, read(source)?)),
+        };
+        check_times((&request.ours, &ours), (&request.theirs, &theirs))?;
+        if let Some((source, batch)) = &batch {
+            check_times((&request.ours, &ours), (source, batch))?;
+            check_times((&request.theirs, &theirs), (source, batch))?;
+        }
+        Ok(Files { ours, theirs, batch })
+    }
+}
+
+/// Whether each id that two files have has one time.
+fn check_times(first: (&Source, &Records), second: (&Source, &Records)) -> Result<(), Failure> {
+    match records::two_times(first.1, second.1) {
+        None => Ok(()),
         Some(lines) => Err(Failure::TwoTimes {
-            ours: ours.clone(),
-            theirs: theirs.clone(),
+            ours: first.0.clone(),
+            theirs: second.0.clone(),
             lines,
         }),
+    }
+}
+
+/// A batch that can be folded in.
+struct Folding<'a> {
+    source: &'a Source,
+    batch: &'a Records,
+    fold: Fold,
+    told: Inquiry,
+}
+
+impl<'a> Folding<'a> {
+    /// Asks what folding in the batch would do.
+    fn begin(opener: &Opener<'_>, source: &'a Source, batch: &'a Records) -> Result<Folding<'a>, Refusal> {
+        let mut fold = opener.fold()?;
+        let told = fold.inquire(batch.table())?;
+        Ok(Folding {
+            source,
+            batch,
+            fold,
+            told,
+        })
+    }
+
+    /// Folds the batch in, and writes the merged records.
+    fn finish(&mut self, output: &Path) -> Result<(), Failure> {
+        self.fold.commit(self.batch.table()).map_err(Failure::Refused)?;
+        merged::write(output, self.fold.table()).map_err(|error| Failure::Written(output.to_path_buf(), error))
+    }
+}
+
+/// Why a batch cannot be folded in, with the line of the first record at fault if there is one.
+fn why_refused(
+    refusal: Refusal,
+    request: &Request,
+    ours: &Records,
+    difference: &Difference<'_>,
+    (source, batch): (&Source, &Records),
+) -> Failure {
+    let together = ours.len() + batch.len();
+    let (ours_from, batch_from) = (request.ours.clone(), source.clone());
+    match (refusal, records::not_due(ours, &difference.theirs_only, batch)) {
+        (Refusal::NotDue, Some(record)) => Failure::NotDue {
+            ours: ours_from,
+            batch: batch_from,
+            record,
+        },
+        (Refusal::TableFull, _) if together > MAX_ITEMS => Failure::TooMany {
+            ours: ours_from,
+            batch: batch_from,
+        },
+        _ => Failure::Refused(refusal),
     }
 }
 
@@ -102,8 +193,13 @@ fn describe(exchanged: &Exchanged, opener: &Opener<'_>) -> String {
 }
 
 /// Writes the report, unless none is wanted. A reader that closes it early has seen that something is missing, but that
-/// nothing is missing counts only if it was told.
-fn report(request: &Request, difference: &Difference<'_>, exchanged: Exchanged) -> Result<Status, Failure> {
+/// nothing is missing counts only if it was told, and so does what folding in would do if it is to be done.
+fn report(
+    request: &Request,
+    difference: &Difference<'_>,
+    exchanged: Exchanged,
+    told: Option<(&Source, Inquiry)>,
+) -> Result<Status, Failure> {
     let options = &request.options;
     let status = if difference.is_empty() {
         Status::Same
@@ -118,10 +214,13 @@ fn report(request: &Request, difference: &Difference<'_>, exchanged: Exchanged) 
         theirs: &request.theirs,
         difference,
         stats: Some(exchanged).filter(|_| options.stats),
+        fold: told,
     };
-    match print(|out| report.write(options.format, out, &mut io::stderr())) {
-        Err(failure) if failure.is_closed_pipe() && status == Status::Differ => Ok(status),
-        printed => printed.map(|()| status),
+    let printed = print(|out| report.write(options.format, out, &mut io::stderr()));
+    match (printed, &options.output) {
+        (Err(failure), Some(output)) if failure.is_closed_pipe() => Err(Failure::NotShown(output.clone())),
+        (Err(failure), None) if failure.is_closed_pipe() && status == Status::Differ => Ok(status),
+        (printed, _) => printed.map(|()| status),
     }
 }
 

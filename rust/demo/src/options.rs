@@ -2,7 +2,9 @@
 use crate::report::Format;
 use crate::source::Source;
 use recon::{Cut, MAX_LIMIT, MAX_PARTS, MIN_BYTE_LIMIT, MIN_PARTS};
-use std::ffi::OsString;
+use std::ffi::{OsStr, OsString};
+use std::os::unix::ffi::OsStrExt;
+use std::path::PathBuf;
 
 pub const USAGE: &str = "usage: reconcile [OPTION..] OURS THEIRS
        reconcile --help";
@@ -13,7 +15,7 @@ pub const HELP: &str = "usage: reconcile [OPTION..] OURS THEIRS
 
 Tells which records each of two files lacks. The end that holds OURS opens a
 session, the end that holds THEIRS answers, and nothing passes between them but
-messages of the Negentropy Protocol V1. One of the two may be -, for standard
+messages of the Negentropy Protocol V1. One of the files may be -, for standard
 input.
 
   -q, --quiet     print nothing but errors: the exit status tells
@@ -25,6 +27,9 @@ input.
                   B to 4096 (default 64)
   --bytes N       how many bytes a message of either end may have, at least 4096
                   (default: as many as it needs); it may take more rounds
+  --fold BATCH    also tell what folding in the records of BATCH would do: how
+                  many would enter OURS, and how many ids would stay needed
+  --output FILE   with --fold: then write OURS with these records to FILE
   -h, --help      print this text
   -V, --version   print the version
   --              what follows is not an option
@@ -36,7 +41,7 @@ A record file has one record in each line: its time (decimal, at most 2^64 - 2),
 one space, and its id (64 hex digits). Empty lines, lines that begin with # and
 a byte-order mark at the start are skipped. The records may stand in any order,
 at most 1048576 of them. None may stand twice in a file, and an id must have the
-same time wherever it stands, in both files.
+same time wherever it stands, in all files.
 
 text  a line for each record that one of the files lacks, with --stats the
       rounds, messages and bytes, and a last line that says how many there are:
@@ -47,6 +52,14 @@ tsv   a line with the names of the fields, side, time and id, and a line for
       count on standard error: its name, a tab and the number
 json  an object with the lists ours_only and theirs_only of objects with time
       and id, one record to a line; with --stats also the object stats
+With --fold text has another last line; tsv has the counts entering and staying
+on standard error, and json the object fold with both.
+
+BATCH is a record file too. Each of its records must be one that OURS lacks and
+whose id the session has found; otherwise nothing is printed, and the error
+names the first line that is not. FILE gets its records sorted by time and id,
+after all else is printed. It is replaced as a whole or stays as it was, and may
+be OURS.
 
 Messages list ids without their times, so the end that holds OURS does not know
 the times of records that only THEIRS has: - stands for them, in JSON null.
@@ -57,7 +70,9 @@ The exit status is 0 if nothing is missing in either file, 1 if something is,
 and 2 in trouble: an argument, a file or the output was at fault, or a call was
 refused. A reader that closes the output early, as head does, is not an error:
 the status is 1 if something is missing. If nothing is, it is 2, without a
-message, because the output did not say so.
+message, because the output did not say so. With --fold the status is that of
+OURS and THEIRS as they were read. FILE is written if it is 0 or 1, and not if
+it is 2; so with --output a reader that closes the output early is an error.
 ";
 
 /// What the command line asks for.
@@ -75,7 +90,7 @@ pub struct Request {
     pub options: Options,
 }
 
-#[derive(Clone, Copy, Debug, Default, PartialEq, Eq)]
+#[derive(Clone, Debug, Default, PartialEq, Eq)]
 pub struct Options {
     pub cut: Cut,
     /// The byte limit of both ends.
@@ -83,6 +98,10 @@ pub struct Options {
     pub format: Format,
     pub stats: bool,
     pub quiet: bool,
+    /// The records to be folded in.
+    pub fold: Option<Source>,
+    /// Where the merged records go.
+    pub output: Option<PathBuf>,
 }
 
 /// Reads the arguments behind the program's name; an error says what is wrong with them.
@@ -94,7 +113,7 @@ pub fn parse(mut arguments: impl Iterator<Item = OsString>) -> Result<Command, S
         if text == "--" {
             sources.extend(arguments.by_ref().map(Source::named));
         } else if text.starts_with('-') && text != "-" {
-            if let Some(command) = options.read(Given::new(&text, &mut arguments))? {
+            if let Some(command) = options.read(Given::new(&argument, &text, &mut arguments))? {
                 return Ok(command);
             }
         } else {
@@ -104,7 +123,9 @@ pub fn parse(mut arguments: impl Iterator<Item = OsString>) -> Result<Command, S
     options.check()?;
     let [ours, theirs] =
         <[Source; 2]>::try_from(sources).map_err(|sources| format!("two files are needed, not {}", sources.len()))?;
-    if ours == Source::StandardInput && theirs == Source::StandardInput {
+    let sources = [Some(&ours), Some(&theirs), options.fold.as_ref()];
+    let from_input = sources.iter().filter(|source| **source == Some(&Source::StandardInput));
+    if from_input.count() > 1 {
         return Err("only one of the files can be - (standard input)".to_string());
     }
     Ok(Command::Reconcile(Request { ours, theirs, options }))
@@ -128,6 +149,8 @@ impl Options {
             "--parts" => self.cut.parts = given.number()?,
             "--limit" => self.cut.limit = given.number()?,
             "--bytes" => self.bytes = Some(given.number()?),
+            "--fold" => self.fold = Some(Source::named(given.file()?)),
+            "--output" => self.output = Some(given.file()?.into()),
             name => return Err(format!("unknown option {name:?}")),
         }
         Ok(None)
@@ -147,8 +170,13 @@ impl Options {
         }
         match self.bytes {
             Some(bytes) if bytes < MIN_BYTE_LIMIT => {
-                Err(format!("--bytes must be at least {MIN_BYTE_LIMIT}, not {bytes}"))
+                return Err(format!("--bytes must be at least {MIN_BYTE_LIMIT}, not {bytes}"));
             }
+            _ => {}
+        }
+        match &self.output {
+            Some(_) if self.fold.is_none() => Err("--output needs --fold".to_string()),
+            Some(file) if file == OsStr::new("-") => Err("--output needs a file, not standard output".to_string()),
             _ => Ok(()),
         }
     }
@@ -156,24 +184,24 @@ impl Options {
 
 /// An option as it is given: its name, the value joined to it by `=`, and the arguments behind it.
 struct Given<'a, I> {
+    argument: &'a OsStr,
     name: &'a str,
     joined: Option<&'a str>,
     rest: &'a mut I,
 }
 
 impl<'a, I: Iterator<Item = OsString>> Given<'a, I> {
-    fn new(text: &'a str, rest: &'a mut I) -> Given<'a, I> {
-        match text.split_once('=') {
-            Some((name, value)) if name.starts_with("--") => Given {
-                name,
-                joined: Some(value),
-                rest,
-            },
-            _ => Given {
-                name: text,
-                joined: None,
-                rest,
-            },
+    /// An argument, and its text.
+    fn new(argument: &'a OsStr, text: &'a str, rest: &'a mut I) -> Given<'a, I> {
+        let (name, joined) = match text.split_once('=') {
+            Some((name, value)) if name.starts_with("--") => (name, Some(value)),
+            _ => (text, None),
+        };
+        Given {
+            argument,
+            name,
+            joined,
+            rest,
         }
     }
 
@@ -201,6 +229,18 @@ impl<'a, I: Iterator<Item = OsString>> Given<'a, I> {
         digits
             .and_then(|digits| digits.parse().ok())
             .ok_or(format!("{name} needs a number, not {value:?}"))
+    }
+
+    /// The name of a file as it is given, whatever its bytes are.
+    fn file(self) -> Result<OsString, String> {
+        let mut parts = self.argument.as_bytes().splitn(2, |&byte| byte == b'=');
+        let value = match self.joined {
+            Some(_) => parts.nth(1).map(|name| OsStr::from_bytes(name).to_os_string()),
+            None => self.rest.next(),
+        };
+        value
+            .filter(|name| !name.is_empty())
+            .ok_or(format!("{} needs a file", self.name))
     }
 
     fn format(self) -> Result<Format, String> {
@@ -247,10 +287,43 @@ mod tests {
             format: Format::Json,
             stats: true,
             quiet: true,
+            fold: Some(file("c")),
+            output: Some("d".into()),
             ..Options::default()
         };
-        assert_eq!(options("--quiet --stats a --format json --bytes 4096 b"), all);
-        assert_eq!(options("a b -q --format=json --bytes=4096 --stats"), all);
+        let text = "--quiet --output d --stats a --fold c --format json --bytes 4096 b";
+        assert_eq!(options(text), all);
+        assert_eq!(
+            options("a b -q --format=json --bytes=4096 --stats --fold=c --output=d"),
+            all
+        );
+    }
+
+    #[test]
+    fn names_of_files_are_taken_as_they_are() {
+        let odd = OsStr::from_bytes(b"\xff=\xfe");
+        for joined in [false, true] {
+            let given = |name: &str| {
+                let mut option = OsString::from(name);
+                option.push("=");
+                option.push(odd);
+                let separate = vec![OsString::from(name), odd.to_os_string()];
+                if joined {
+                    vec![option]
+                } else {
+                    separate
+                }
+            };
+            let files = ["a", "b"].map(OsString::from);
+            let arguments = given("--fold").into_iter().chain(given("--output")).chain(files);
+            match parse(arguments) {
+                Ok(Command::Reconcile(Request { options, .. })) => {
+                    assert_eq!(options.fold, Some(Source::File(odd.into())));
+                    assert_eq!(options.output, Some(odd.into()));
+                }
+                other => panic!("{other:?}"),
+            }
+        }
     }
 
     #[test]
@@ -270,6 +343,7 @@ mod tests {
         );
         assert_eq!(options("--format json a b --format tsv").format, Format::Tsv);
         assert_eq!(options("--bytes 1 a b --bytes 5000").bytes, Some(5000));
+        assert_eq!(options("--fold - a b --fold c").fold, Some(file("c")));
         assert_eq!(options("-q -q --quiet a b"), options("-q a b"));
     }
 
@@ -300,7 +374,8 @@ mod tests {
 
     #[test]
     fn one_file_may_be_standard_input() {
-        for text in ["- a", "a -", "-- a -"] {
+        assert_eq!(options("a b --fold -").fold, Some(Source::StandardInput));
+        for text in ["- a", "a -", "-- a -", "- a --fold b"] {
             match parsed(text) {
                 Ok(Command::Reconcile(Request { ours, theirs, .. })) => {
                     assert!(
@@ -321,6 +396,14 @@ mod tests {
             ("a b c", "two files are needed, not 3"),
             ("a -- b c", "two files are needed, not 3"),
             ("- -", "only one of the files can be - (standard input)"),
+            ("- a --fold -", "only one of the files can be - (standard input)"),
+            ("a - --fold=-", "only one of the files can be - (standard input)"),
+            ("a b --fold", "--fold needs a file"),
+            ("a b --fold=", "--fold needs a file"),
+            ("a b --output", "--output needs a file"),
+            ("a b --output c", "--output needs --fold"),
+            ("a b --fold c --output=-", "--output needs a file, not standard output"),
+            ("a --fold b c d", "two files are needed, not 3"),
             ("a b --part 2", "unknown option \"--part\""),
             ("a b --part=2", "unknown option \"--part\""),
             ("a b -qq", "unknown option \"-qq\""),

@@ -1,5 +1,6 @@
 //! Record files: a record in each line, `TIME ID`. The records of a file become a table, sorted by time and then by id.
 use recon::{Table, ID_BYTES, MAX_ITEMS};
+use std::cmp::Ordering;
 use std::collections::hash_map::{Entry, HashMap};
 use std::fmt;
 use std::io::{self, BufRead, ErrorKind, Read};
@@ -41,8 +42,7 @@ impl Records {
         Records::of_lines(numbered.collect())
     }
 
-    #[cfg(test)]
-    fn len(&self) -> usize {
+    pub fn len(&self) -> usize {
         self.times.len()
     }
 
@@ -55,6 +55,21 @@ impl Records {
 
     pub fn iter(&self) -> impl Iterator<Item = (u64, &[u8])> {
         self.times.iter().copied().zip(self.ids.chunks_exact(ID_BYTES))
+    }
+
+    /// The line of a record that stands here as it is.
+    fn line_of(&self, record: (u64, &[u8])) -> Option<usize> {
+        let (mut low, mut high) = (0, self.len());
+        while low < high {
+            let middle = (low + high) / 2;
+            let id = &self.ids[ID_BYTES * middle..ID_BYTES * (middle + 1)];
+            match (self.times[middle], id).cmp(&record) {
+                Ordering::Less => low = middle + 1,
+                Ordering::Greater => high = middle,
+                Ordering::Equal => return Some(self.lines[middle]),
+            }
+        }
+        None
     }
 
     /// The ids, with their lines, of the records that `others` has not as they are, time and id.
@@ -84,6 +99,26 @@ pub fn two_times(ours: &Records, theirs: &Records) -> Option<TwoTimes> {
         Some(TwoTimes { theirs: line, ours })
     });
     both.min()
+}
+
+/// A record of a batch that cannot be folded in.
+#[derive(Clone, Copy, Debug, PartialEq, Eq)]
+pub struct NotDue {
+    pub line: usize,
+    /// The line of the same record in the table.
+    pub ours: Option<usize>,
+}
+
+/// Finds the first line of a batch whose record stands in `ours` already, or whose id is not one of those needed, which
+/// rise.
+pub fn not_due(ours: &Records, needed: &[&[u8]], batch: &Records) -> Option<NotDue> {
+    let records = batch.iter().zip(batch.lines.iter().copied());
+    let not_due = records.filter_map(|((time, id), line)| {
+        let ours = ours.line_of((time, id));
+        let is_due = ours.is_none() && needed.binary_search(&id).is_ok();
+        (!is_due).then_some(NotDue { line, ours })
+    });
+    not_due.min_by_key(|record| record.line)
 }
 
 /// Why a record file cannot be used.
@@ -468,6 +503,25 @@ mod tests {
             );
         }
         assert!((500..1500).contains(&found), "{found}");
+    }
+
+    /// Of several, the first line of the batch counts, whatever the order of times and ids.
+    #[test]
+    fn records_that_are_not_due_are_told_by_line() {
+        let c = B.replace("ff", "fe");
+        let ours = read(format!("# ours\n5 {A}\n6 {B}\n").as_bytes()).unwrap();
+        let ids = [id(0, 0xaa), id(0xfe, 0)];
+        let needed: Vec<&[u8]> = ids.iter().map(|id| &id[..]).collect();
+        let told = |batch: &str| {
+            let batch = read(batch.as_bytes()).unwrap();
+            not_due(&ours, &needed, &batch).map(|record| (record.line, record.ours))
+        };
+        assert_eq!(told(""), None);
+        assert_eq!(told(&format!("9 {c}\n4 {A}")), None);
+        // In the table as it is, though its id is needed.
+        assert_eq!(told(&format!("9 {c}\n5 {A}")), Some((2, Some(2))));
+        assert_eq!(told(&format!("9 {c}\n\n7 {B}")), Some((3, None)));
+        assert_eq!(told(&format!("6 {B}\n5 {A}")), Some((1, Some(3))));
     }
 
     #[test]

@@ -1,6 +1,7 @@
 //! What is written to standard output.
 use crate::exchange::{Exchanged, Traffic};
 use crate::source::Source;
+use recon::Inquiry;
 use std::io::{self, Write};
 
 /// How the report is written.
@@ -47,6 +48,8 @@ pub struct Report<'a> {
     pub difference: &'a Difference<'a>,
     /// What went over, if that is to be told.
     pub stats: Option<Exchanged>,
+    /// A batch, and what folding it in would do.
+    pub fold: Option<(&'a Source, Inquiry)>,
 }
 
 impl Report<'_> {
@@ -76,6 +79,14 @@ impl Report<'_> {
             writeln!(out, "ours to theirs: {}", traffic(exchanged.queries))?;
             writeln!(out, "theirs to ours: {}", traffic(exchanged.replies))?;
         }
+        self.write_outcome(out)?;
+        match self.fold {
+            Some((batch, told)) => self.write_fold(out, batch, told),
+            None => Ok(()),
+        }
+    }
+
+    fn write_outcome(&self, out: &mut impl Write) -> io::Result<()> {
         if self.difference.is_empty() {
             return writeln!(out, "nothing is missing at either end");
         }
@@ -85,6 +96,15 @@ impl Report<'_> {
             out,
             "{ours_only} only in {}, {theirs_only} only in {}",
             self.ours, self.theirs
+        )
+    }
+
+    fn write_fold(&self, out: &mut impl Write, batch: &Source, told: Inquiry) -> io::Result<()> {
+        let (entering, staying) = (count(told.entering, "record"), count(told.staying, "id"));
+        writeln!(
+            out,
+            "{entering} of {batch} would enter {}, {staying} would stay needed",
+            self.ours
         )
     }
 
@@ -101,7 +121,8 @@ impl Report<'_> {
     }
 
     fn write_tsv_stats(&self, out: &mut impl Write) -> io::Result<()> {
-        for (name, number) in self.stats.iter().flat_map(counts) {
+        let folded = self.fold.iter().flat_map(|(_, told)| fold_counts(told));
+        for (name, number) in self.stats.iter().flat_map(counts).chain(folded) {
             writeln!(out, "{name}\t{number}")?;
         }
         Ok(())
@@ -116,8 +137,10 @@ impl Report<'_> {
         let theirs_only = self.difference.theirs_only.iter();
         write_list(out, "theirs_only", theirs_only.map(|id| ("null".to_string(), *id)))?;
         if let Some(exchanged) = &self.stats {
-            let fields = counts(exchanged).map(|(name, number)| format!("\"{name}\": {number}"));
-            write!(out, ",\n\"stats\": {{{}}}", fields.join(", "))?;
+            write_object(out, "stats", &counts(exchanged))?;
+        }
+        if let Some((_, told)) = &self.fold {
+            write_object(out, "fold", &fold_counts(told))?;
         }
         writeln!(out, "\n}}")
     }
@@ -138,6 +161,20 @@ fn write_list<'a>(
         after = "\n";
     }
     write!(out, "{after}]")
+}
+
+/// An object of numbers in JSON, under its name, behind what came before it.
+fn write_object(out: &mut impl Write, name: &str, counts: &[(&str, usize)]) -> io::Result<()> {
+    let fields: Vec<String> = counts
+        .iter()
+        .map(|(name, number)| format!("\"{name}\": {number}"))
+        .collect();
+    write!(out, ",\n\"{name}\": {{{}}}", fields.join(", "))
+}
+
+/// What folding in would do, each number under its name.
+fn fold_counts(told: &Inquiry) -> [(&'static str, usize); 2] {
+    [("entering", told.entering), ("staying", told.staying)]
 }
 
 /// What went over, each number under its name.
@@ -164,7 +201,7 @@ fn count(number: usize, thing: &str) -> String {
     format!("{number} {thing}{}", if number == 1 { "" } else { "s" })
 }
 
-fn hex(id: &[u8]) -> String {
+pub fn hex(id: &[u8]) -> String {
     let digits = b"0123456789abcdef";
     id.iter()
         .flat_map(|byte| [byte >> 4, byte & 15])
@@ -183,12 +220,27 @@ mod tests {
 
     /// What is written for a difference, to the output and aside.
     fn written(format: Format, difference: &Difference<'_>, stats: bool) -> (String, String) {
-        let (ours, theirs) = (Source::StandardInput, Source::File("b".into()));
+        written_with(format, difference, stats, None)
+    }
+
+    /// The same with so many records of the file `c` that would enter, and ids that would stay.
+    fn written_with(
+        format: Format,
+        difference: &Difference<'_>,
+        stats: bool,
+        fold: Option<(usize, usize)>,
+    ) -> (String, String) {
+        let (ours, theirs, batch) = (
+            Source::StandardInput,
+            Source::File("b".into()),
+            Source::File("c".into()),
+        );
         let report = Report {
             ours: &ours,
             theirs: &theirs,
             difference,
             stats: Some(EXCHANGED).filter(|_| stats),
+            fold: fold.map(|(entering, staying)| (&batch, Inquiry { entering, staying })),
         };
         let (mut out, mut aside) = (Vec::new(), Vec::new());
         report.write(format, &mut out, &mut aside).unwrap();
@@ -248,6 +300,35 @@ mod tests {
             format!("{empty}\n}}\n")
         );
         assert_eq!(written(Format::Json, &some(), true).1, "");
+    }
+
+    #[test]
+    fn what_folding_in_would_do_comes_last() {
+        for stats in [false, true] {
+            let (plain, _) = written(Format::Text, &some(), stats);
+            for (counts, line) in [
+                (
+                    (1, 0),
+                    "1 record of c would enter standard input, 0 ids would stay needed\n",
+                ),
+                (
+                    (0, 1),
+                    "0 records of c would enter standard input, 1 id would stay needed\n",
+                ),
+            ] {
+                let (out, aside) = written_with(Format::Text, &some(), stats, Some(counts));
+                assert_eq!((out, aside.as_str()), (format!("{plain}{line}"), ""));
+            }
+            let (table, aside) = written(Format::Tsv, &some(), stats);
+            let counts = format!("{aside}entering\t1\nstaying\t2\n");
+            assert_eq!(written_with(Format::Tsv, &some(), stats, Some((1, 2))), (table, counts));
+            let (object, _) = written(Format::Json, &some(), stats);
+            let with_fold = object.replace("\n}\n", ",\n\"fold\": {\"entering\": 1, \"staying\": 2}\n}\n");
+            assert_eq!(
+                written_with(Format::Json, &some(), stats, Some((1, 2))),
+                (with_fold, String::new())
+            );
+        }
     }
 
     #[test]

@@ -1,16 +1,18 @@
 //! Times of whole sessions by the proved library and by the plain reference, on equal tables in one run:
-//! `bench [--quick] [--lists | --within] [--csv FILE]`, with `--lists` only the takes of replies with many ids, with `--within` only sessions with
-//! byte limits, which the others leave out. The tables of times go to standard output.
+//! `bench [--quick] [--lists | --within | --fold] [--csv FILE]`, with `--lists` only the takes of replies with many ids, with `--within` only sessions
+//! with byte limits, and with `--fold` only inquiries and commits; the others leave the last two out. The tables of times go to standard output.
 
 mod cases;
 mod clock;
 mod csv;
 mod ends;
+mod fold;
 mod growth;
 mod layout;
 mod limits;
 mod lists;
 mod measure;
+mod plain_fold;
 mod record;
 mod report;
 mod results;
@@ -31,6 +33,8 @@ struct Options {
     lists: bool,
     /// Only sessions with byte limits.
     within: bool,
+    /// Only inquiries and commits.
+    fold: bool,
 }
 
 fn options(mut arguments: impl Iterator<Item = String>) -> Option<Options> {
@@ -39,6 +43,7 @@ fn options(mut arguments: impl Iterator<Item = String>) -> Option<Options> {
         csv: None,
         lists: false,
         within: false,
+        fold: false,
     };
     while let Some(argument) = arguments.next() {
         match argument.as_str() {
@@ -46,6 +51,7 @@ fn options(mut arguments: impl Iterator<Item = String>) -> Option<Options> {
             "--csv" => options.csv = Some(arguments.next()?),
             "--lists" => options.lists = true,
             "--within" => options.within = true,
+            "--fold" => options.fold = true,
             _ => return None,
         }
     }
@@ -75,13 +81,17 @@ fn measure_all(clock: &Clock, effort: &Effort, cut: Cut) -> Vec<Measured> {
 
 fn main() {
     let options = options(env::args().skip(1)).unwrap_or_else(|| {
-        eprintln!("bench [--quick] [--lists | --within] [--csv FILE]");
+        eprintln!("bench [--quick] [--lists | --within | --fold] [--csv FILE]");
         process::exit(2)
     });
     let Options { effort, csv, lists, .. } = options;
     let clock = Clock::new();
     if options.within {
         print!("{}", within::measure_all(&clock));
+        return;
+    }
+    if options.fold {
+        print!("{}", fold::measure_all(&clock, &effort));
         return;
     }
     let listed = lists::measure_all(&clock, &effort);

@@ -227,7 +227,7 @@ fn series(call: Call, ways: &[Way], times: &[Vec<Time>]) -> Vec<Series> {
 }
 
 /// Runs each way in turn, each turn beginning with another one, and gives the least time of each.
-pub fn alternate(effort: &Effort, ways: &[Way], mut run: impl FnMut(Way) -> f64) -> Vec<Time> {
+pub fn alternate<W: Copy>(effort: &Effort, ways: &[W], mut run: impl FnMut(W) -> f64) -> Vec<Time> {
     let mut least = vec![f64::INFINITY; ways.len()];
     let (mut turn, mut turns) = (0, 1);
     while turn < turns {

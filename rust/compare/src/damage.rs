@@ -1,7 +1,7 @@
 //! The reference with damage on purpose, for the self-check.
 use crate::calls::{Call, Calls, GivenBound, GivenItem, Lent, Outcome, Reference, Refused, RunOutcome, TreeCall};
 use crate::calls::{FoldAnswer, FoldCall, FoldLent, FoldOutcome};
-use crate::fold_trials::FoldMade;
+use crate::fold_made::FoldMade;
 use crate::guard::{touch_beyond, Side};
 use crate::input::Input;
 use crate::tree::TreeInput;
@@ -85,8 +85,8 @@ pub enum Damage {
     Committed(fn(&mut FoldMade<'_, '_>, &mut Committed)),
     /// Spoils what an inquiry or a commit did, refused or not.
     Fold(fn(&mut FoldMade<'_, '_>)),
-    /// Reads a byte before or behind the out buffer, the tree of a build or an append, or the needed buffer of an inquiry
-    /// or a commit.
+    /// Reads a byte before or behind the out buffer, the tree of a build or an append, or the needed buffer of an
+    /// inquiry or a commit.
     Beyond(Side),
 }
 

@@ -72,8 +72,8 @@ impl<'a> FoldInput<'a> {
         }
     }
 
-    /// What holds of the lent bytes after every call, whichever implementation made it: only a commit writes, and nothing
-    /// behind table and list.
+    /// What holds of the lent bytes after every call, whichever implementation made it: only a commit writes, and
+    /// nothing behind table and list.
     pub fn check(&self, after: &FoldAfter) -> Check {
         match after.outcome {
             Err(refused) => self.check_unchanged(after, &format!("refused by {}", refused.number)),
@@ -101,8 +101,8 @@ impl<'a> FoldInput<'a> {
         same_bytes(before, after, what("needed bytes"))
     }
 
-    /// What a commit leaves that was not refused: the table is the union of itself and the batch, and the list has the ids
-    /// that the batch has not.
+    /// What a commit leaves that was not refused: the table is the union of itself and the batch, and the list has the
+    /// ids that the batch has not.
     pub fn check_merge(&self, after: &FoldAfter) -> Check {
         let left = match after.committed() {
             None => return Ok(()),

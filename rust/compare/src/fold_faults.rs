@@ -84,8 +84,8 @@ impl FoldDraft {
         self.batch().count() < 100_000
     }
 
-    /// Puts an item into the batch at its place. Whatever was wrong with the batch remains so: an item comes between two
-    /// others only if they rise.
+    /// Puts an item into the batch at its place. Whatever was wrong with the batch remains so: an item comes between
+    /// two others only if they rise.
     fn add_to_batch(&mut self, item: impl FnOnce(&FoldDraft) -> Item) {
         if self.is_small() {
             let item = item(self);

@@ -16,6 +16,7 @@ mod exchange;
 mod faults;
 mod fold;
 mod fold_faults;
+mod fold_made;
 mod fold_trials;
 mod generate;
 mod guard;

@@ -1,6 +1,6 @@
 //! `reconcile OURS THEIRS` tells which records each of two files lacks, by a session between an opener that holds the
-//! first and a responder that holds the second, and with `--fold` merges records into the first. `reconcile --help` has the
-//! file format and the options.
+//! first and a responder that holds the second, and with `--fold` merges records into the first. `reconcile --help` has
+//! the file format and the options.
 mod exchange;
 mod failure;
 mod merged;
@@ -40,8 +40,8 @@ fn run() -> Result<Status, Failure> {
     Ok(Status::Same)
 }
 
-/// Reads the files, runs a session between the first two, and reports what it found and what folding in would do. Then the
-/// merged records are written, if they are to be: nothing is done that was not shown.
+/// Reads the files, runs a session between the first two, and reports what it found and what folding in would do. Then
+/// the merged records are written, if they are to be: nothing is done that was not shown.
 fn reconcile(request: &Request) -> Result<Status, Failure> {
     let options = &request.options;
     let mut progress = Progress::new(io::stderr(), stderr_is_terminal() && !options.quiet);

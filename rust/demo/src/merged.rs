@@ -6,8 +6,8 @@ use std::io::{self, BufWriter, ErrorKind, Write};
 use std::path::{Path, PathBuf};
 use std::process;
 
-/// Makes a file one of these records, in table order. They are written under another name in the same folder, which then
-/// takes the place of the file: whatever fails or ends the program before that leaves the file as it was.
+/// Makes a file one of these records, in table order. They are written under another name in the same folder, which
+/// then takes the place of the file: whatever fails or ends the program before that leaves the file as it was.
 pub fn write(path: &Path, table: Table<'_>) -> io::Result<()> {
     let (target, before) = target(path)?;
     let part = part_name(&target)?;
@@ -19,8 +19,8 @@ pub fn write(path: &Path, table: Table<'_>) -> io::Result<()> {
     written
 }
 
-/// The file that a path leads to over links, and its permissions if it is there. Only a regular file is replaced: a device
-/// would become one.
+/// The file that a path leads to over links, and its permissions if it is there. Only a regular file is replaced: a
+/// device would become one.
 fn target(path: &Path) -> io::Result<(PathBuf, Option<fs::Permissions>)> {
     match fs::metadata(path) {
         Err(error) if error.kind() == ErrorKind::NotFound => Ok((path.to_path_buf(), None)),

@@ -24,8 +24,8 @@ pub struct Committed {
     pub session: Session,
 }
 
-/// Inquire: "changes nothing and reports how many items would enter and how many ids would stay needed". Refuses by 1, 2,
-/// 4 and 15 to 17. "Our table comes with its item count": its buffers may be longer.
+/// Inquire: "changes nothing and reports how many items would enter and how many ids would stay needed". Refuses by 1,
+/// 2, 4 and 15 to 17. "Our table comes with its item count": its buffers may be longer.
 pub fn fold_inquire(
     times: &[u64],
     ids: &[u8],
@@ -63,7 +63,8 @@ pub fn fold_commit(
     })
 }
 
-/// The table and the needed list that a commit would leave. The lent buffers change only when nothing can refuse any more.
+/// The table and the needed list that a commit would leave. The lent buffers change only when nothing can refuse any
+/// more.
 struct Fold {
     merged: Vec<(u64, Id)>,
     needed: Vec<Id>,
@@ -106,7 +107,8 @@ impl Fold {
         Ok(Fold { merged, needed })
     }
 
-    /// Lays table and list into the lent buffers. "Table bytes behind the merge stay", and needed bytes behind the list.
+    /// Lays table and list into the lent buffers. "Table bytes behind the merge stay", and needed bytes behind the
+    /// list.
     fn lay(&self, times: &mut [u64], ids: &mut [u8], needed: &mut [u8]) {
         let items = times.iter_mut().zip(ids.chunks_exact_mut(32)).zip(&self.merged);
         for ((time, bytes), item) in items {

@@ -1,8 +1,8 @@
 //! Range-based set reconciliation with the bytes of the Negentropy Protocol V1.
 //!
-//! A plain reference, written from the specification and without dependencies. The files follow its headings:
-//! `bound` and `table` (Tables and bounds), `label` and `sha256` (Fingerprints), `cursor` and `message` (Messages),
-//! `cutting` (Cutting), `ends` (The two ends), `tree` (Labels kept in a tree), `limit` (Byte limits), `fold` (Folding in),
+//! A plain reference, written from the specification and without dependencies. The files follow its headings: `bound`
+//! and `table` (Tables and bounds), `label` and `sha256` (Fingerprints), `cursor` and `message` (Messages), `cutting`
+//! (Cutting), `ends` (The two ends), `tree` (Labels kept in a tree), `limit` (Byte limits), `fold` (Folding in),
 //! `refusal` (In checking order).
 //!
 //! Quotation marks in comments hold words of the specification. Every refusal is its number there, in `Err`.

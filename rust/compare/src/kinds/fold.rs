@@ -1,6 +1,6 @@
-//! Folding in: each fault of an inquiry and a commit, and each two of them at once; room of every size; batches that go in
-//! front of a table, between its items and behind them, ids under two times, and inputs that are changed at random; whole
-//! sessions whose needed items come in several commits. An inquiry and a commit of the same input have to agree.
+//! Folding in: each fault of an inquiry and a commit, and each two of them at once; room of every size; batches that go
+//! in front of a table, between its items and behind them, ids under two times, and inputs that are changed at random;
+//! whole sessions whose needed items come in several commits. An inquiry and a commit of the same input have to agree.
 use super::{expect_number, Case, Group};
 use crate::compare::Check;
 use crate::fold_faults::{fold_faults, FoldDraft, FoldFault};
@@ -118,8 +118,8 @@ fn with_faults(case: &mut Case<'_, '_>, draft: &FoldDraft, expected: Option<u8>)
     expected.map_or(Ok(()), |expected| expect_number(told, expected))
 }
 
-/// Up to four items and a batch of up to four, with every number of times and with id bytes around each whole id: 1 where
-/// they are too few for the table, 17 where they are too few for the merge.
+/// Up to four items and a batch of up to four, with every number of times and with id bytes around each whole id: 1
+/// where they are too few for the table, 17 where they are too few for the merge.
 fn room(case: &mut Case<'_, '_>, number: usize) -> Check {
     let (count, batch_count) = (number % 5, number / 5 % 5);
     let merged = count + batch_count;

@@ -1,4 +1,5 @@
-//! Folding in at 1,048,576 items and one more, and needed lists of more ids than the library looks at at once (131,072).
+//! Folding in at 1,048,576 items and one more, and needed lists of more ids than the library looks at at once
+//! (131,072).
 use super::limits::table;
 use super::{expect_number, Case};
 use crate::calls::FoldCall;

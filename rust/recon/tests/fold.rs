@@ -189,12 +189,14 @@ fn room_for_the_merge() {
 type Fault = fn(&mut Given);
 
 /// In the order of the checks. A fault leaves those before it as they are.
-const FAULTS: [(Refusal, Fault); 19] = [
+const FAULTS: [(Refusal, Fault); 21] = [
     (Refusal::TableSize, |given| given.times.truncate(1)),
     (Refusal::TableSize, |given| given.ids.truncate(63)),
     (Refusal::TableSize, |given| given.items = usize::MAX),
     (Refusal::TableSize, |given| given.items = 1 << 59),
     (Refusal::TableSize, |given| given.batch_ids.truncate(63)),
+    (Refusal::TableSize, |given| given.batch_ids.push(0)),
+    (Refusal::TableSize, |given| given.batch_ids.extend([9; 32])),
     (Refusal::TableSize, |given| given.batch_times.push(9)),
     (Refusal::TableOrder, |given| given.times[0] = 8),
     (Refusal::TableOrder, |given| given.times[1] = u64::MAX),

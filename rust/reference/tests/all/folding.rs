@@ -243,6 +243,7 @@ const FAULTS: &[(u8, Fault)] = &[
     (1, |call| call.items = usize::MAX),
     (1, |call| call.batch_ids.truncate(63)),
     (1, |call| call.batch_ids.push(0)),
+    (1, |call| call.batch_ids.extend(id(9))),
     (1, |call| call.batch_times.push(9)),
     (2, |call| call.times[0] = 8),
     (2, |call| call.times[1] = u64::MAX),

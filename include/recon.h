@@ -7,8 +7,8 @@
    copy of, target/staticlib/libcapi.a. examples/session.c is a complete program, recon(3) the manual page.
 
    Every call answers for any values. A refused call answers with the number of its refusal, below, and changes nothing. Look at the refusal
-   before the session: only an answer without one says that the session went on. On 11 (RECON_NEEDED_FULL) and 12 (RECON_NO_ROOM) too
-   nothing has changed: grow the buffer and call again.
+   before the session: only an answer without one says that the session went on. On 11 (RECON_NEEDED_FULL), 12 (RECON_NO_ROOM) and 17
+   (RECON_TABLE_FULL) too nothing has changed: grow the buffer and call again.
 
    What a caller owes:
    - a pointer points to as many elements as its length says; where the length is 0 it is not looked at, and may be null;
@@ -64,8 +64,8 @@ static inline size_t recon_tree_bytes(size_t items) {
 }
 
 /* The refusals: name, number, and what recon_strerror says of it. They are checked in the order of their numbers, save that 13 comes right
-   after 2, and 14 right after 3. Of a message: its first byte is 0x61, or 0x60 to 0x6F for an answer (6), no varint starts with 0x80 (8), and no
-   mode is above 2 (10). */
+   after 2, 14 right after 3, 15 and 16 right after 5, and 17 in the place of 11. Of a message: its first byte is 0x61, or 0x60 to 0x6F for an
+   answer (6), no varint starts with 0x80 (8), and no mode is above 2 (10). */
 #define RECON_REFUSALS(REFUSAL) \
     REFUSAL(RECON_TABLE_SIZE, 1, "the id bytes are not 32 for each time, or there are more than 1,048,576 items") \
     REFUSAL(RECON_TABLE_ORDER, 2, "the items do not rise strictly by time and id, or a time is 2^64 - 1") \
@@ -80,7 +80,10 @@ static inline size_t recon_tree_bytes(size_t items) {
     REFUSAL(RECON_NEEDED_FULL, 11, "the needed buffer is too small for the ids that are lacking") \
     REFUSAL(RECON_NO_ROOM, 12, "the out buffer is too small for the message") \
     REFUSAL(RECON_WRONG_TREE, 13, "the tree is not as long as one over these items is, or has no free place") \
-    REFUSAL(RECON_BYTE_LIMIT, 14, "the byte limit is below 4,096")
+    REFUSAL(RECON_BYTE_LIMIT, 14, "the byte limit is below 4,096") \
+    REFUSAL(RECON_SESSION_OPEN, 15, "the session is not done") \
+    REFUSAL(RECON_NOT_DUE, 16, "an id of the batch is not on the needed list, or its item is already in the table") \
+    REFUSAL(RECON_TABLE_FULL, 17, "the table's buffers cannot hold the merge, or it exceeds 1,048,576 items")
 
 #define RECON_ENUMERATOR(name, number, text) name = number,
 enum { RECON_REFUSALS(RECON_ENUMERATOR) RECON_OK = 0 };
@@ -121,6 +124,20 @@ typedef struct {
     recon_session session;
 } recon_session_answer;
 
+/* What an inquiry answers. */
+typedef struct {
+    uint64_t refusal; /* the number of the refusal, 0 for none; where the call is refused, the rest is 0 */
+    size_t entering;  /* how many items would enter the table */
+    size_t staying;   /* how many ids would stay on the needed list */
+} recon_inquiry;
+
+/* What a commit answers; where it is refused, items and session are as they were handed over. */
+typedef struct {
+    uint64_t refusal;
+    size_t items;          /* how many items the table has afterwards */
+    recon_session session; /* the session afterwards */
+} recon_commit;
+
 /* The label of some items. An id is summed as a number whose least significant byte is its first. */
 typedef struct {
     uint64_t sum[4]; /* the sum of their ids modulo 2^256, least significant word first */
@@ -141,7 +158,9 @@ typedef struct {
      needed_len   bytes: of whole ids, so a multiple of 32
      id_len       bytes: 32
      tree_len     bytes: recon_tree_bytes(times_len), where the call is handed a table
-   and all others (out_len, query_len, reply_len, lower_prefix_len, upper_prefix_len, m_len) bytes. */
+     batch_times_len and batch_ids_len as times_len and ids_len, of the items of the batch
+   and all others (out_len, query_len, reply_len, lower_prefix_len, upper_prefix_len, m_len) bytes. Where a call is handed `items`, the table is the
+   first so many of its buffers, and times_len and ids_len are those of the buffers: at least 1 and 32 for each item. */
 
 /* Opens a session: writes the first query at the start of out and sets the marks, one byte for each item, to 0. The needed buffer, of whole
    ids, is only looked at: the list in it is empty now. Bytes of out behind the message stay.
@@ -195,6 +214,36 @@ recon_session_answer recon_take_within(const uint64_t *times, size_t times_len, 
                                        size_t bytes, const uint8_t *reply, size_t reply_len, recon_session session, uint8_t *marks,
                                        size_t marks_len, uint8_t *needed, size_t needed_len, uint8_t *out, size_t out_len);
 
+/* Folding in. Once a session is done, the opener's table can take the items that the other end hands over, a batch at a time. A batch is times
+   and ids, ordered like a table. The table is the first `items` of its buffers, which may be longer, and not of the same length.
+   Both calls make the same checks, in this order. 1: the buffers are too short for the items, these are more than RECON_MAX_ITEMS, or so are those
+   of the batch, or its id bytes are not 32 for each time. 2: the items of the table or those of the batch do not rise strictly, or a time is
+   2^64 - 1. 4: needed_len is not a multiple of 32, session.needed is more ids than that, or these do not rise strictly. 15: the session is not
+   done. 16: an id of the batch is not on the needed list, or an item of it, with this time and this id, is already in the table. 17: a buffer of
+   the table is too short for the merge, or that is more than RECON_MAX_ITEMS.
+   Neither is handed the marks or judges their count, so several commits can follow one session. The marks remain those of the items that the table
+   had in the session, and a tree over the table has to be built anew after a commit.
+   Once no id is needed any more, and each item of the batches was handed over as the other end holds it, the table is the union of both, under
+   the conditions on which a session reports all, and if nothing else has changed either table since the opening. That an item has the time under
+   which the other end holds it cannot be checked here, since messages carry no times for ids. */
+
+/* Tells what a commit of the batch would do, and changes nothing: how many items would enter, all of the batch, and how many ids would stay needed,
+   those that the batch has under no time. If nothing changes between, the commit is not refused, its items are so many more, and so many ids are
+   needed then; and where the inquiry is refused, it is refused by the same number.
+   Refuses by 1, 2, 4 and 15 to 17. */
+recon_inquiry recon_fold_inquire(const uint64_t *times, size_t times_len, const uint8_t *ids, size_t ids_len, size_t items,
+                                 recon_session session, const uint8_t *needed, size_t needed_len, const uint64_t *batch_times,
+                                 size_t batch_times_len, const uint8_t *batch_ids, size_t batch_ids_len);
+
+/* Merges the batch into the table, at the front of its buffers, and takes its ids off the needed list, after every check was made afresh. An id that
+   the batch has under two times leaves the list once, and both items enter. Elements of the table's buffers behind the merge stay, and so do
+   bytes of needed behind the shorter list: what stood there before, ids that have left the list too. In the session only `needed` changes.
+   Refuses by 1, 2, 4 and 15 to 17; items and session are then those that were handed over. On 17 nothing has changed: if items + batch_times_len is
+   at most RECON_MAX_ITEMS, grow the buffers to so many items and call again. */
+recon_commit recon_fold_commit(uint64_t *times, size_t times_len, uint8_t *ids, size_t ids_len, size_t items, recon_session session,
+                               uint8_t *needed, size_t needed_len, const uint64_t *batch_times, size_t batch_times_len,
+                               const uint8_t *batch_ids, size_t batch_ids_len);
+
 /* The fingerprint of the items at or above a lower bound and below an upper one, into the 16 bytes at out. A bound is infinite, or a time and
    a prefix of an id (0 to 32 bytes); missing id bytes count as 00. Where the lower bound is not below the upper one, the fingerprint of no items.
    Answers 0, or refuses by 1, 2 or 9 (a time 2^64 - 1, a prefix longer than 32, a prefix at infinity), and then out stays. */
@@ -246,9 +295,14 @@ static inline const uint8_t *recon_nonnull_bytes(const uint8_t *bytes, size_t le
     return len == 0 ? &none : bytes;
 }
 
-/* Bytes that a call may write. */
+/* Bytes that a call may write, and times. */
 static inline uint8_t *recon_nonnull_room(uint8_t *room, size_t len) {
     static uint8_t none = 0;
+    return len == 0 ? &none : room;
+}
+
+static inline uint64_t *recon_nonnull_times_room(uint64_t *room, size_t len) {
+    static uint64_t none = 0;
     return len == 0 ? &none : room;
 }
 
@@ -256,6 +310,7 @@ static inline uint8_t *recon_nonnull_room(uint8_t *room, size_t len) {
 #define RECON_TIMES(p) recon_nonnull_times(p, p##_len), p##_len
 #define RECON_BYTES(p) recon_nonnull_bytes(p, p##_len), p##_len
 #define RECON_ROOM(p) recon_nonnull_room(p, p##_len), p##_len
+#define RECON_TIMES_ROOM(p) recon_nonnull_times_room(p, p##_len), p##_len
 
 static inline recon_session_answer recon_open_inline(const uint64_t *times, size_t times_len, const uint8_t *ids, size_t ids_len, size_t parts,
                                                      size_t limit, uint8_t *marks, size_t marks_len, const uint8_t *needed, size_t needed_len,
@@ -303,6 +358,23 @@ static inline recon_session_answer recon_take_within_inline(const uint64_t *time
 }
 #define recon_take_within(...) recon_take_within_inline(__VA_ARGS__)
 
+static inline recon_inquiry recon_fold_inquire_inline(const uint64_t *times, size_t times_len, const uint8_t *ids, size_t ids_len, size_t items,
+                                                      recon_session session, const uint8_t *needed, size_t needed_len,
+                                                      const uint64_t *batch_times, size_t batch_times_len, const uint8_t *batch_ids,
+                                                      size_t batch_ids_len) {
+    return recon_fold_inquire(RECON_TIMES(times), RECON_BYTES(ids), items, session, RECON_BYTES(needed), RECON_TIMES(batch_times),
+                              RECON_BYTES(batch_ids));
+}
+#define recon_fold_inquire(...) recon_fold_inquire_inline(__VA_ARGS__)
+
+static inline recon_commit recon_fold_commit_inline(uint64_t *times, size_t times_len, uint8_t *ids, size_t ids_len, size_t items,
+                                                    recon_session session, uint8_t *needed, size_t needed_len, const uint64_t *batch_times,
+                                                    size_t batch_times_len, const uint8_t *batch_ids, size_t batch_ids_len) {
+    return recon_fold_commit(RECON_TIMES_ROOM(times), RECON_ROOM(ids), items, session, RECON_ROOM(needed), RECON_TIMES(batch_times),
+                             RECON_BYTES(batch_ids));
+}
+#define recon_fold_commit(...) recon_fold_commit_inline(__VA_ARGS__)
+
 static inline uint64_t recon_fingerprint_inline(const uint64_t *times, size_t times_len, const uint8_t *ids, size_t ids_len,
                                                 bool lower_infinite, uint64_t lower_time, const uint8_t *lower_prefix,
                                                 size_t lower_prefix_len, bool upper_infinite, uint64_t upper_time,
@@ -335,6 +407,7 @@ static inline recon_tree_answer recon_tree_label_inline(const uint8_t *tree, siz
 #undef RECON_TIMES
 #undef RECON_BYTES
 #undef RECON_ROOM
+#undef RECON_TIMES_ROOM
 
 #ifdef __cplusplus
 }

@@ -92,6 +92,28 @@ recon_session_answer(recon_take_within)(const uint64_t *times, size_t times_len,
     return answer;
 }
 
+recon_inquiry(recon_fold_inquire)(const uint64_t *times, size_t times_len, const uint8_t *ids, size_t ids_len, size_t items,
+                                  recon_session session, const uint8_t *needed, size_t needed_len, const uint64_t *batch_times,
+                                  size_t batch_times_len, const uint8_t *batch_ids, size_t batch_ids_len) {
+    const recon_inquiry answer = {12, 34, 56};
+    table(times, times_len, ids, ids_len);
+    number(items), number(session.marked), number(session.needed), number(session.done);
+    slice(needed, needed_len);
+    table(batch_times, batch_times_len, batch_ids, batch_ids_len);
+    return answer;
+}
+
+recon_commit(recon_fold_commit)(uint64_t *times, size_t times_len, uint8_t *ids, size_t ids_len, size_t items, recon_session session,
+                                uint8_t *needed, size_t needed_len, const uint64_t *batch_times, size_t batch_times_len,
+                                const uint8_t *batch_ids, size_t batch_ids_len) {
+    const recon_commit answer = {12, 34, {56, 78, true}};
+    table(times, times_len, ids, ids_len);
+    number(items), number(session.marked), number(session.needed), number(session.done);
+    slice(needed, needed_len);
+    table(batch_times, batch_times_len, batch_ids, batch_ids_len);
+    return answer;
+}
+
 uint64_t(recon_fingerprint)(const uint64_t *times, size_t times_len, const uint8_t *ids, size_t ids_len, bool lower_infinite,
                             uint64_t lower_time, const uint8_t *lower_prefix, size_t lower_prefix_len, bool upper_infinite,
                             uint64_t upper_time, const uint8_t *upper_prefix, size_t upper_prefix_len, uint8_t out[16]) {
@@ -135,7 +157,7 @@ static unsigned nulls, lengths_evaluated, numbers_evaluated;
 static uint64_t words[MOST];
 static uint8_t bytes[32];
 
-static const uint64_t *words_at(size_t k) { return nulls >> k & 1 ? NULL : words + k; }
+static uint64_t *words_at(size_t k) { return nulls >> k & 1 ? NULL : words + k; }
 
 static uint8_t *bytes_at(size_t k) { return nulls >> k & 1 ? NULL : bytes + k; }
 
@@ -190,9 +212,9 @@ static void expect(const char *call, const char *form, unsigned numbers, int ans
     count = lengths_evaluated = numbers_evaluated = 0;
 }
 
-static int is_answer(recon_session_answer a) {
-    return a.refusal == 12 && a.length == 34 && a.session.marked == 56 && a.session.needed == 78 && a.session.done;
-}
+static int is_session(recon_session s) { return s.marked == 56 && s.needed == 78 && s.done; }
+
+static int is_answer(recon_session_answer a) { return a.refusal == 12 && a.length == 34 && is_session(a.session); }
 
 static int is_tree_answer(recon_tree_answer a) {
     return a.refusal == 12 && a.label.sum[0] == 34 && a.label.sum[1] == 56 && a.label.sum[2] == 78 && a.label.sum[3] == 90 &&
@@ -210,6 +232,14 @@ static void calls_within(recon_session session) {
     expect("recon_take_within", "TB236B451BBB", 3, is_answer(taken));
 }
 
+/* Folding in, into a table of 6 items. */
+static void calls_for_folding(recon_session session) {
+    recon_inquiry asked = recon_fold_inquire(TIMES(0), BYTES(1), evaluated(6), session, BYTES(2), TIMES(3), BYTES(4));
+    expect("recon_fold_inquire", "TB6451BTB", 1, asked.refusal == 12 && asked.entering == 34 && asked.staying == 56);
+    recon_commit done = recon_fold_commit(TIMES(0), BYTES(1), evaluated(6), session, BYTES(2), TIMES(3), BYTES(4));
+    expect("recon_fold_commit", "TB6451BTB", 1, done.refusal == 12 && done.items == 34 && is_session(done.session));
+}
+
 static void all_calls(void) {
     const recon_session session = {4, 5, true};
     recon_session_answer opened = recon_open(TIMES(0), BYTES(1), evaluated(2), evaluated(3), BYTES(2), BYTES(3), BYTES(4));
@@ -219,6 +249,7 @@ static void all_calls(void) {
     recon_session_answer taken = recon_take(TIMES(0), BYTES(1), evaluated(2), evaluated(3), BYTES(2), session, BYTES(3), BYTES(4), BYTES(5));
     expect("recon_take", "TB23B451BBB", 2, is_answer(taken));
     calls_within(session);
+    calls_for_folding(session);
     uint64_t lower = recon_fingerprint(TIMES(0), BYTES(1), false, evaluated(3), BYTES(2), true, evaluated(5), BYTES(3), bytes);
     expect("recon_fingerprint", "TB03B15BO", 2, lower == 12);
     uint64_t upper = recon_fingerprint(TIMES(0), BYTES(1), true, evaluated(3), BYTES(2), false, evaluated(5), BYTES(3), bytes);

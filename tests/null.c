@@ -7,7 +7,7 @@
 #include "recon.h"
 
 /* Which slices are empty, as a set. */
-enum { TIMES = 1, IDS = 2, OUT = 4, MESSAGE = 8, MARKS = 16, NEEDED = 32, LOWER = 8, UPPER = 16, TREE = 4, ID = 8 };
+enum { TIMES = 1, IDS = 2, OUT = 4, MESSAGE = 8, MARKS = 16, NEEDED = 32, LOWER = 8, UPPER = 16, TREE = 4, ID = 8, BATCH_TIMES = 4, BATCH_IDS = 8 };
 
 /* A slice as two arguments: null and 0, or what is given. */
 #define NULL_OR(which, p, n) (empty & (which) ? NULL : (p)), (empty & (which) ? 0 : (n))
@@ -18,6 +18,8 @@ enum { TIMES = 1, IDS = 2, OUT = 4, MESSAGE = 8, MARKS = 16, NEEDED = 32, LOWER 
 typedef struct {
     uint64_t times[3];
     uint8_t ids[96], message[5], marks[2], needed[64], out[128], prefix[1], id[32], tree[280];
+    uint64_t batch_times[1];
+    uint8_t batch_ids[32];
 } lent;
 
 static unsigned long compared, unrefused;
@@ -40,6 +42,8 @@ static lent fresh(void) {
     memcpy(l.message, no_ids, 5);
     memset(l.out, 0xa5, sizeof l.out);
     memset(l.tree, 0xa5, sizeof l.tree);
+    l.needed[32] = 1;
+    l.batch_times[0] = 6;
     return l;
 }
 
@@ -111,6 +115,46 @@ static void taken_within(unsigned empty) {
     expect("recon_take_within", empty, alike(x, y) && memcmp(&a, &b, sizeof a) == 0);
 }
 
+/* The item count and the needed ids fit what is there: a table of two items in buffers for three, or of none, and two ids, or none. */
+static size_t item_count(unsigned empty) { return empty & (TIMES | IDS) ? 0 : 2; }
+
+static recon_session finished(unsigned empty) {
+    const recon_session session = {1, (size_t)(empty & NEEDED ? 0 : 2), true};
+    return session;
+}
+
+static void inquired(unsigned empty) {
+    lent a = fresh(), b = fresh();
+    recon_inquiry x = recon_fold_inquire(NULL_OR(TIMES, a.times, 3), NULL_OR(IDS, a.ids, 96), item_count(empty), finished(empty),
+                                         NULL_OR(NEEDED, a.needed, 64), NULL_OR(BATCH_TIMES, a.batch_times, 1),
+                                         NULL_OR(BATCH_IDS, a.batch_ids, 32));
+    recon_inquiry y = (recon_fold_inquire)(SOME_OR(TIMES, b.times, 3), SOME_OR(IDS, b.ids, 96), item_count(empty), finished(empty),
+                                           SOME_OR(NEEDED, b.needed, 64), SOME_OR(BATCH_TIMES, b.batch_times, 1),
+                                           SOME_OR(BATCH_IDS, b.batch_ids, 32));
+    unrefused += x.refusal == RECON_OK;
+    expect("recon_fold_inquire", empty, memcmp(&x, &y, sizeof x) == 0 && memcmp(&a, &b, sizeof a) == 0);
+    if (empty == (TIMES | IDS | NEEDED | BATCH_TIMES | BATCH_IDS))
+        expect("recon_fold_inquire of nothing", empty, x.refusal == RECON_OK && x.entering == 0 && x.staying == 0);
+}
+
+static void committed(unsigned empty) {
+    lent a = fresh(), b = fresh();
+    recon_commit x = recon_fold_commit(NULL_OR(TIMES, a.times, 3), NULL_OR(IDS, a.ids, 96), item_count(empty), finished(empty),
+                                       NULL_OR(NEEDED, a.needed, 64), NULL_OR(BATCH_TIMES, a.batch_times, 1),
+                                       NULL_OR(BATCH_IDS, a.batch_ids, 32));
+    recon_commit y = (recon_fold_commit)(SOME_OR(TIMES, b.times, 3), SOME_OR(IDS, b.ids, 96), item_count(empty), finished(empty),
+                                         SOME_OR(NEEDED, b.needed, 64), SOME_OR(BATCH_TIMES, b.batch_times, 1),
+                                         SOME_OR(BATCH_IDS, b.batch_ids, 32));
+    const int same = x.refusal == y.refusal && x.items == y.items && x.session.needed == y.session.needed && x.session.marked == 1 &&
+                     y.session.marked == 1 && x.session.done && y.session.done;
+    unrefused += x.refusal == RECON_OK;
+    expect("recon_fold_commit", empty, same && memcmp(&a, &b, sizeof a) == 0);
+    if (empty == (TIMES | IDS | NEEDED | BATCH_TIMES | BATCH_IDS))
+        expect("recon_fold_commit of nothing", empty, x.refusal == RECON_OK && x.items == 0);
+    if (empty == 0)
+        expect("recon_fold_commit of an item", empty, x.refusal == RECON_OK && x.items == 3 && a.times[1] == 6 && x.session.needed == 1);
+}
+
 static void fingerprinted(unsigned empty) {
     lent a = fresh(), b = fresh();
     uint64_t x = recon_fingerprint(NULL_OR(TIMES, a.times, 2), NULL_OR(IDS, a.ids, 64), false, 0, NULL_OR(LOWER, a.prefix, 1), false, 9,
@@ -169,6 +213,8 @@ int main(void) {
         opened_within(empty);
         answered_within(empty);
         taken_within(empty);
+        inquired(empty);
+        committed(empty);
         fingerprinted(empty);
         digested(empty);
         built(empty);

@@ -767,12 +767,12 @@ static void id_of(size_t k, uint8_t id[32]) {
     memcpy(id, number, 4);
 }
 
-static void fill(table *t, bool has(size_t)) {
+static void fill(table *t, bool has(size_t), void id(size_t, uint8_t[32])) {
     t->n = 0;
     for (size_t k = 0; k < RECORDS; k++)
         if (has(k)) {
             t->times[t->n] = k / 3;
-            id_of(k, t->ids + 32 * t->n++);
+            id(k, t->ids + 32 * t->n++);
         }
 }
 
@@ -855,8 +855,8 @@ static course run_session(byte_limits l) {
 
 /* Whole sessions. 64 * 16^2 is at least our items, so that without limits three takes are enough. */
 static void sessions_within(void) {
-    fill(&ours, we_have);
-    fill(&theirs, they_have);
+    fill(&ours, we_have, id_of);
+    fill(&theirs, they_have, id_of);
     const course plain = run_session((byte_limits){{0, 0, 0}, {0, 0, 0}});
     expect("without limits", plain.takes <= 3 && plain.query > 4096 && plain.reply > 4096);
     const course wide = run_session((byte_limits){{plain.query, ROOM, SIZE_MAX}, {plain.reply, ROOM, SIZE_MAX}});
@@ -869,6 +869,510 @@ static void sessions_within(void) {
     expect("a limit of the responder", responder.takes > 3 && responder.query > 4096 && responder.reply <= 4096);
     const course changing = run_session((byte_limits){{4096, 0, 6000}, {0, 5000, 4096}});
     expect("limits that change", changing.takes > 3);
+}
+
+/* All that a call for folding in is handed: the table and its item count, the session with the needed list, and the batch. */
+enum { FOLD_ROOM = 16 };
+
+typedef struct {
+    uint64_t times[FOLD_ROOM], batch_times[FOLD_ROOM];
+    uint8_t ids[32 * FOLD_ROOM], needed[32 * FOLD_ROOM], batch_ids[32 * FOLD_ROOM];
+    size_t times_len, ids_len, items, needed_len, batch_times_len, batch_ids_len;
+    recon_session session;
+} fold;
+
+static recon_inquiry inquire(const fold *f) {
+    return recon_fold_inquire(f->times, f->times_len, f->ids, f->ids_len, f->items, f->session, f->needed, f->needed_len, f->batch_times,
+                              f->batch_times_len, f->batch_ids, f->batch_ids_len);
+}
+
+static recon_commit commit(fold *f) {
+    return recon_fold_commit(f->times, f->times_len, f->ids, f->ids_len, f->items, f->session, f->needed, f->needed_len, f->batch_times,
+                             f->batch_times_len, f->batch_ids, f->batch_ids_len);
+}
+
+static int is_inquiry(recon_inquiry a, uint64_t refusal, size_t entering, size_t staying) {
+    return a.refusal == refusal && a.entering == entering && a.staying == staying;
+}
+
+static int is_commit(recon_commit a, uint64_t refusal, size_t items, recon_session s) {
+    return a.refusal == refusal && a.items == items && is_session(a.session, s.marked, s.needed, s.done);
+}
+
+/* The inquiry says yes, the commit does what it said, and leaves every byte as in `after`. */
+static void folds(const char *what, const fold *before, const fold *after) {
+    static fold f;
+    memcpy(&f, before, sizeof f);
+    expect(what, is_inquiry(inquire(&f), RECON_OK, after->items - before->items, after->session.needed));
+    expect("an inquiry changes nothing", memcmp(&f, before, sizeof f) == 0);
+    expect(what, is_commit(commit(&f), RECON_OK, after->items, after->session));
+    f.items = after->items;
+    f.session.needed = after->session.needed;
+    expect("table and needed list after a commit, and the bytes behind them", memcmp(&f, after, sizeof f) == 0);
+}
+
+/* Both are refused by this number, and change nothing. */
+static void refused_fold(const char *what, const fold *before, uint64_t number) {
+    static fold f;
+    memcpy(&f, before, sizeof f);
+    expect(what, is_inquiry(inquire(&f), number, 0, 0));
+    expect(what, is_commit(commit(&f), number, before->items, before->session));
+    expect("a refused inquiry or commit changes nothing", memcmp(&f, before, sizeof f) == 0);
+}
+
+/* An item whose id has one byte and then zeros. */
+typedef struct {
+    uint64_t time;
+    uint8_t first;
+} short_item;
+
+static void put_item(uint64_t *t, uint8_t *i, size_t at, short_item item) {
+    t[at] = item.time;
+    memset(i + 32 * at, 0, 32);
+    i[32 * at] = item.first;
+}
+
+/* What E21 to E23 have in common: a table of two items in buffers for four, three needed ids, and a batch of one or two. */
+static void put_fold(fold *f, const short_item *batch, size_t n) {
+    const short_item items[2] = {{5, 1}, {7, 3}};
+    memset(f, OLD, sizeof *f);
+    for (size_t k = 0; k < 2; k++)
+        put_item(f->times, f->ids, k, items[k]);
+    for (size_t k = 0; k < n; k++)
+        put_item(f->batch_times, f->batch_ids, k, batch[k]);
+    memset(f->needed, 0, 96);
+    for (size_t k = 0; k < 3; k++)
+        f->needed[32 * k] = (uint8_t)(k + 2);
+    f->times_len = 4;
+    f->ids_len = 128;
+    f->items = 2;
+    f->needed_len = 96;
+    f->batch_times_len = n;
+    f->batch_ids_len = 32 * n;
+    memset(&f->session, 0, sizeof f->session);
+    f->session.marked = 1;
+    f->session.needed = 3;
+    f->session.done = true;
+}
+
+/* The same afterwards: its items, and its first needed ids by their first bytes. */
+static void put_folded(fold *after, const fold *before, const short_item *items, size_t n, const uint8_t *needed, size_t count) {
+    memcpy(after, before, sizeof *after);
+    for (size_t k = 0; k < n; k++)
+        put_item(after->times, after->ids, k, items[k]);
+    for (size_t k = 0; k < count; k++)
+        after->needed[32 * k] = needed[k];
+    after->items = n;
+    after->session.needed = count;
+}
+
+/* E21 and E22, in buffers as long as the merge, longer, and not of the same length; and a batch of no items. */
+static void known_folds(void) {
+    static const short_item two[2] = {{5, 2}, {7, 4}}, twice[2] = {{6, 2}, {8, 2}}, other_time[1] = {{9, 3}};
+    static const short_item with_two[4] = {{5, 1}, {5, 2}, {7, 3}, {7, 4}}, with_twice[4] = {{5, 1}, {6, 2}, {7, 3}, {8, 2}};
+    static const short_item with_other[3] = {{5, 1}, {7, 3}, {9, 3}};
+    static const uint8_t third[1] = {3}, last_two[2] = {3, 4}, outer_two[2] = {2, 4};
+    static const size_t rooms[][2] = {{4, 128}, {4, 159}, {5, 128}, {16, 512}, {4, 512}, {16, 130}};
+    static fold f, after;
+    for (size_t r = 0; r < sizeof rooms / sizeof rooms[0]; r++) {
+        put_fold(&f, two, 2);
+        f.times_len = rooms[r][0];
+        f.ids_len = rooms[r][1];
+        put_folded(&after, &f, with_two, 4, third, 1);
+        expect("E21: what stood behind the shorter list", after.needed[32] == 3 && after.needed[64] == 4);
+        folds("E21", &f, &after);
+    }
+    put_fold(&f, twice, 2);
+    put_folded(&after, &f, with_twice, 4, last_two, 2);
+    folds("E22: an id under two times", &f, &after);
+    put_fold(&f, other_time, 1);
+    put_folded(&after, &f, with_other, 3, outer_two, 2);
+    folds("E22: an id that the table has under another time", &f, &after);
+    put_fold(&f, two, 0);
+    f.times_len = 2;
+    f.ids_len = 64;
+    folds("a batch of no items, and full buffers", &f, &f);
+    f.times_len = f.ids_len = f.items = f.needed_len = f.session.needed = 0;
+    folds("a table of no items, and nothing is needed", &f, &f);
+    put_fold(&f, two, 2);
+    f.items = 0;
+    f.times_len = 2;
+    f.ids_len = 64;
+    put_folded(&after, &f, two, 2, third, 1);
+    folds("a table of no items", &f, &after);
+}
+
+/* E23, and the buffers that are just too short. */
+static void known_refusals(void) {
+    static const short_item two[2] = {{5, 2}, {7, 4}}, not_needed[1] = {{6, 5}}, in_table[1] = {{7, 3}};
+    static fold f;
+    put_fold(&f, two, 2);
+    f.session.done = false;
+    refused_fold("E23: a session that is not done", &f, RECON_SESSION_OPEN);
+    put_fold(&f, not_needed, 1);
+    refused_fold("E23: an id that is not needed", &f, RECON_NOT_DUE);
+    put_fold(&f, in_table, 1);
+    refused_fold("E23: an item that is in the table", &f, RECON_NOT_DUE);
+    put_fold(&f, two, 2);
+    f.times_len = 3;
+    f.ids_len = 96;
+    refused_fold("E23: buffers for three items", &f, RECON_TABLE_FULL);
+    f.times_len = 4;
+    f.ids_len = 127;
+    refused_fold("one byte too few for the ids", &f, RECON_TABLE_FULL);
+    f.times_len = 3;
+    f.ids_len = 512;
+    refused_fold("one element too few for the times", &f, RECON_TABLE_FULL);
+    put_fold(&f, two, 2);
+    f.needed_len = 95;
+    refused_fold("E23: a needed buffer of 95 bytes", &f, RECON_WRONG_STATE);
+    put_fold(&f, two, 2);
+    f.session.needed = 2;
+    refused_fold("an id that stands behind the needed list", &f, RECON_NOT_DUE);
+    f.session.needed = 0;
+    refused_fold("no needed ids", &f, RECON_NOT_DUE);
+}
+
+/* What can be wrong, and its number. */
+enum {
+    SHORT_TIMES, SHORT_IDS, MANY_ITEMS, ITEMS_WRAP, SHORT_BATCH, LONG_BATCH, /* 1 */
+    EQUAL_ITEMS, TABLE_FALLS, TABLE_INFINITE, EQUAL_BATCH, BATCH_FALLS, BATCH_INFINITE, /* 2 */
+    PARTIAL_ID, MANY_NEEDED, NEEDED_WRAP, EQUAL_NEEDED, NEEDED_FALLS, /* 4 */
+    NOT_DONE, NOT_NEEDED, IN_TABLE, FULL_TIMES, FULL_IDS, FOLD_FAULTS
+};
+static const uint64_t fold_numbers[FOLD_FAULTS] = {1, 1, 1, 1, 1, 1, 2, 2, 2, 2, 2, 2, 4, 4, 4, 4, 4, 15, 16, 16, 17, 17};
+
+/* E21 with a set of faults. Where two of them touch the same place, the one of the lower number stands. */
+static void put_faults(fold *f, unsigned faults) {
+#define HAS(fault) (faults >> (fault) & 1)
+    const short_item batch[2] = {{5, HAS(NOT_NEEDED) ? 9 : 2}, {7, HAS(IN_TABLE) ? 3 : 4}};
+    put_fold(f, batch, 2);
+    f->times_len = HAS(SHORT_TIMES) ? 1 : HAS(FULL_TIMES) ? 3 : 4;
+    f->ids_len = HAS(SHORT_IDS) ? 63 : HAS(FULL_IDS) ? 127 : 128;
+    f->items = HAS(MANY_ITEMS) ? (size_t)RECON_MAX_ITEMS + 1 : HAS(ITEMS_WRAP) ? SIZE_MAX / 32 + 3 : 2;
+    f->batch_ids_len = HAS(SHORT_BATCH) ? 63 : HAS(LONG_BATCH) ? 65 : 64;
+    if (HAS(EQUAL_ITEMS))
+        put_item(f->times, f->ids, 1, (short_item){5, 1});
+    if (HAS(TABLE_FALLS))
+        put_item(f->times, f->ids, 1, (short_item){4, 9});
+    if (HAS(TABLE_INFINITE))
+        f->times[1] = UINT64_MAX;
+    if (HAS(EQUAL_BATCH))
+        put_item(f->batch_times, f->batch_ids, 1, batch[0]);
+    if (HAS(BATCH_FALLS))
+        put_item(f->batch_times, f->batch_ids, 1, (short_item){5, 0});
+    if (HAS(BATCH_INFINITE))
+        f->batch_times[1] = UINT64_MAX;
+    f->needed_len = HAS(PARTIAL_ID) ? 97 : 96;
+    f->session.needed = HAS(MANY_NEEDED) ? 4 : HAS(NEEDED_WRAP) ? SIZE_MAX / 32 + 3 : 3;
+    if (HAS(EQUAL_NEEDED))
+        f->needed[32] = 2;
+    if (HAS(NEEDED_FALLS))
+        f->needed[64] = 1;
+    f->session.done = !HAS(NOT_DONE);
+#undef HAS
+}
+
+/* Every fault by itself and every two together: the lower number counts. */
+static void fold_refusals(void) {
+    static fold f;
+    put_faults(&f, 0);
+    expect("no fault", inquire(&f).refusal == RECON_OK);
+    for (unsigned a = 0; a < FOLD_FAULTS; a++)
+        for (unsigned b = a; b < FOLD_FAULTS; b++) {
+            put_faults(&f, 1u << a | 1u << b);
+            refused_fold("one fault or two", &f, fold_numbers[a]);
+        }
+}
+
+/* Fold by fold against what the specification says, item by item. */
+static uint64_t fold_state = 1;
+
+static size_t below(size_t n) {
+    fold_state = fold_state * 6364136223846793005u + 1442695040888963407u;
+    return (size_t)(fold_state >> 33) % n;
+}
+
+/* Where an item stands in a table, or should. */
+static size_t item_place(const uint64_t *t, const uint8_t *i, size_t n, uint64_t time, const uint8_t *id) {
+    size_t at = 0;
+    while (at < n && (t[at] < time || (t[at] == time && memcmp(i + 32 * at, id, 32) < 0)))
+        at++;
+    return at;
+}
+
+static bool has_item(const uint64_t *t, const uint8_t *i, size_t n, uint64_t time, const uint8_t *id) {
+    const size_t at = item_place(t, i, n, time, id);
+    return at < n && t[at] == time && memcmp(i + 32 * at, id, 32) == 0;
+}
+
+static void insert_item(uint64_t *t, uint8_t *i, size_t *n, uint64_t time, const uint8_t *id) {
+    const size_t at = item_place(t, i, *n, time, id);
+    memmove(t + at + 1, t + at, sizeof *t * (*n - at));
+    memmove(i + 32 * (at + 1), i + 32 * at, 32 * (*n - at));
+    t[at] = time;
+    memcpy(i + 32 * at, id, 32);
+    ++*n;
+}
+
+static bool has_id(const uint8_t *list, size_t n, const uint8_t *id) {
+    for (size_t k = 0; k < n; k++)
+        if (memcmp(list + 32 * k, id, 32) == 0)
+            return true;
+    return false;
+}
+
+/* One of eight ids, which differ in the first byte or in the last. */
+static void some_id(uint8_t id[32], size_t which) {
+    memset(id, 7, 32);
+    id[0] = (uint8_t)(which % 2);
+    id[31] = (uint8_t)(which / 2);
+}
+
+/* Up to so many items, of times below `times`; with a list, most of them have ids of it. */
+static size_t some_items(uint64_t *t, uint8_t *i, size_t most, const uint8_t *list, size_t listed) {
+    size_t n = 0;
+    for (size_t k = below(most + 1); k > 0; k--) {
+        const uint64_t time = below(4);
+        uint8_t id[32];
+        some_id(id, below(8));
+        if (listed > 0 && below(16) > 0)
+            memcpy(id, list + 32 * below(listed), 32);
+        if (!has_item(t, i, n, time, id))
+            insert_item(t, i, &n, time, id);
+    }
+    return n;
+}
+
+static void some_fold(fold *f) {
+    memset(f, OLD, sizeof *f);
+    memset(&f->session, 0, sizeof f->session);
+    f->session.marked = below(9);
+    f->session.done = true;
+    for (size_t which = 0; which < 8; which++)
+        if (below(4) > 0) /* in their order: first bytes count first */
+            some_id(f->needed + 32 * f->session.needed++, which / 4 + which % 4 * 2);
+    f->needed_len = 32 * (f->session.needed + below(4));
+    f->items = some_items(f->times, f->ids, 6, f->needed, 0);
+    f->batch_times_len = some_items(f->batch_times, f->batch_ids, 4, f->needed, f->session.needed);
+    f->batch_ids_len = 32 * f->batch_times_len;
+    f->times_len = f->items + f->batch_times_len + below(4);
+    f->ids_len = 32 * (f->items + f->batch_times_len) + below(96);
+    if (below(8) == 0)
+        f->times_len = f->items + below(f->batch_times_len + 1);
+    if (below(8) == 0)
+        f->ids_len = 32 * f->items + below(32 * f->batch_times_len + 1);
+}
+
+/* The refusal, or 0 and all that was lent as it is afterwards. */
+static uint64_t folded(const fold *f, fold *after) {
+    memcpy(after, f, sizeof *after);
+    for (size_t k = 0; k < f->batch_times_len; k++) {
+        const uint64_t time = f->batch_times[k];
+        const uint8_t *id = f->batch_ids + 32 * k;
+        if (!has_id(f->needed, f->session.needed, id) || has_item(f->times, f->ids, f->items, time, id))
+            return RECON_NOT_DUE;
+    }
+    if (f->times_len < f->items + f->batch_times_len || f->ids_len < 32 * (f->items + f->batch_times_len))
+        return RECON_TABLE_FULL;
+    for (size_t k = 0; k < f->batch_times_len; k++)
+        insert_item(after->times, after->ids, &after->items, f->batch_times[k], f->batch_ids + 32 * k);
+    after->session.needed = 0;
+    for (size_t k = 0; k < f->session.needed; k++)
+        if (!has_id(f->batch_ids, f->batch_times_len, f->needed + 32 * k))
+            memcpy(after->needed + 32 * after->session.needed++, f->needed + 32 * k, 32);
+    return RECON_OK;
+}
+
+static void many_folds(void) {
+    static fold f, after;
+    size_t met[RECON_TABLE_FULL + 1] = {0}, twice = 0;
+    for (size_t k = 0; k < 20000; k++) {
+        some_fold(&f);
+        const uint64_t number = folded(&f, &after);
+        met[number]++;
+        if (number == RECON_OK)
+            folds("a fold", &f, &after);
+        else
+            refused_fold("a refused fold", &f, number);
+        twice += number == RECON_OK && after.items - f.items > f.session.needed - after.session.needed;
+    }
+    expect("each kind of fold was met", met[RECON_OK] > 1000 && met[RECON_NOT_DUE] > 1000 && met[RECON_TABLE_FULL] > 1000 && twice > 1000);
+}
+
+/* Ids that rise with the records of one time, and not with the times. */
+static void digest_of(size_t k, uint8_t id[32]) {
+    const uint8_t time[2] = {(uint8_t)(k / 3 >> 8), (uint8_t)(k / 3)}, number[3] = {0, (uint8_t)(k >> 8), (uint8_t)k};
+    uint8_t of_time[32];
+    recon_sha256(time, 2, of_time);
+    recon_sha256(number, 3, id);
+    id[0] = (uint8_t)((of_time[0] & 0xfc) | k % 3);
+}
+
+static bool either_has(size_t k) { return we_have(k) || they_have(k); }
+
+static bool only_they_have(size_t k) { return they_have(k) && !we_have(k); }
+
+/* A session to its end. */
+static recon_session finished(size_t bytes) {
+    recon_session_answer sent = open_ours(bytes);
+    while (sent.refusal == RECON_OK && !sent.session.done)
+        sent = take_ours(bytes, answer_theirs(bytes, sent.length).length, sent.session);
+    expect("a session is done", sent.refusal == RECON_OK);
+    return sent.session;
+}
+
+static recon_inquiry inquire_ours(recon_session s, const table *batch) {
+    return recon_fold_inquire(ours.times, RECORDS, ours.ids, sizeof ours.ids, ours.n, s, our_needed, sizeof our_needed, batch->times, batch->n,
+                              batch->ids, 32 * batch->n);
+}
+
+static recon_commit commit_ours(recon_session s, const table *batch, size_t room) {
+    return recon_fold_commit(ours.times, room, ours.ids, 32 * room, ours.n, s, our_needed, sizeof our_needed, batch->times, batch->n, batch->ids,
+                             32 * batch->n);
+}
+
+/* Takes a batch in: without room, with it, and once more. */
+static recon_session take_in(recon_session s, const table *batch) {
+    static table before;
+    memcpy(&before, &ours, sizeof ours);
+    const recon_inquiry said = inquire_ours(s, batch);
+    expect("what would enter, and what would stay", is_inquiry(said, RECON_OK, batch->n, s.needed - batch->n));
+    expect("no room for the last item", is_commit(commit_ours(s, batch, ours.n + batch->n - 1), RECON_TABLE_FULL, ours.n, s));
+    expect("a refused commit changes nothing", memcmp(&before, &ours, sizeof ours) == 0);
+    const recon_commit done = commit_ours(s, batch, RECORDS);
+    expect("the commit does what was said", is_commit(done, RECON_OK, ours.n + batch->n, (recon_session){s.marked, said.staying, true}));
+    ours.n = done.items;
+    expect("the same batch again", is_inquiry(inquire_ours(done.session, batch), RECON_NOT_DUE, 0, 0));
+    expect("it is not needed any more", is_commit(commit_ours(done.session, batch, RECORDS), RECON_NOT_DUE, ours.n, done.session));
+    return done.session;
+}
+
+/* A session, then what only they have in so many batches, each of items from the whole table: then ours is the union, and both agree on it. */
+static void union_by(size_t batches, size_t bytes) {
+    static table both, batch, lacking;
+    memset(&ours, OLD, sizeof ours);
+    memset(&both, OLD, sizeof both);
+    fill(&ours, we_have, digest_of);
+    fill(&theirs, they_have, digest_of);
+    fill(&both, either_has, digest_of);
+    fill(&lacking, only_they_have, digest_of);
+    recon_session s = finished(bytes);
+    const size_t marked = s.marked;
+    expect("all of it is needed", s.needed == lacking.n && lacking.n > 0);
+    for (size_t b = 0; b < batches; b++) {
+        batch.n = 0;
+        for (size_t k = b; k < lacking.n; k += batches) {
+            batch.times[batch.n] = lacking.times[k];
+            memcpy(batch.ids + 32 * batch.n++, lacking.ids + 32 * k, 32);
+        }
+        s = take_in(s, &batch);
+    }
+    expect("nothing is needed any more", is_session(s, marked, 0, true));
+    expect("the table is the union, and what is behind it stays", memcmp(&ours, &both, sizeof ours) == 0);
+    expect("another session finds nothing that is lacking", is_session(finished(bytes), marked, 0, true));
+}
+
+static void unions(void) {
+    union_by(1, 0);
+    union_by(7, 0);
+    union_by(3, 4096);
+}
+
+/* As many items as a table can have, at the times 0, 1, .. and with ids of zeros; t and i have room for one more. */
+static void largest_folds(uint64_t *t, uint8_t *i) {
+    const size_t most = RECON_MAX_ITEMS, id_bytes = most * RECON_ID_BYTES, room = most + 1, room_bytes = id_bytes + RECON_ID_BYTES;
+    const recon_session session = {0, 1, true}, none_needed = {0, 0, true};
+    uint64_t *times_then = malloc(room * sizeof *t);
+    uint8_t *ids_then = malloc(room_bytes), needed[32] = {0};
+    const uint64_t before[1] = {0}, behind[1] = {most};
+    if (times_then == NULL || ids_then == NULL)
+        exit(2);
+#define INQUIRE(items, bt, n) recon_fold_inquire(t, room, i, room_bytes, items, session, needed, 32, bt, n, i, 32 * (n))
+    expect("a batch of the most items", is_inquiry(INQUIRE(0, t, most), RECON_OK, most, 0));
+    expect("a batch of one more", is_inquiry(INQUIRE(0, t, most + 1), RECON_TABLE_SIZE, 0, 0));
+    expect("the item that makes the most", is_inquiry(INQUIRE(most - 1, behind, 1), RECON_OK, 1, 0));
+    expect("an item more than the most", is_inquiry(INQUIRE(most, behind, 1), RECON_TABLE_FULL, 0, 0));
+    expect("no more items", is_inquiry(INQUIRE(most, behind, 0), RECON_OK, 0, 1));
+    expect("a table of more than the most", is_inquiry(INQUIRE(most + 1, behind, 0), RECON_TABLE_SIZE, 0, 0));
+    expect("the most items into a table of one", is_inquiry(INQUIRE(1, t + 1, most), RECON_TABLE_FULL, 0, 0));
+#undef INQUIRE
+    /* All but the first item; it goes before all others. */
+    memcpy(times_then, t + 1, most * sizeof *t);
+    memset(ids_then, 0, room_bytes);
+    recon_commit done =
+        recon_fold_commit(times_then, room, ids_then, room_bytes, most - 1, session, needed, 32, before, 1, i, RECON_ID_BYTES);
+    expect("an item before all others", is_commit(done, RECON_OK, most, none_needed));
+    expect("all items are moved by one", memcmp(times_then, t, most * sizeof *t) == 0 && memcmp(ids_then, i, room_bytes) == 0);
+    done = recon_fold_commit(times_then, most, ids_then, id_bytes, 0, session, needed, 32, t, most, i, id_bytes);
+    expect("an id under as many times", is_commit(done, RECON_OK, most, none_needed) && memcmp(times_then, t, most * sizeof *t) == 0);
+    free(times_then);
+    free(ids_then);
+}
+
+/* A needed list of more ids than a table can have items. Ids differ at their ends alone; a later id has an earlier time. */
+enum { LONG_LIST = 2 * RECON_MAX_ITEMS + 3, LATEST = 1 << 30 };
+
+static void put_number(uint8_t *id, size_t k) {
+    memset(id, 0, 32);
+    for (size_t j = 0; j < 4; j++)
+        id[31 - j] = (uint8_t)(k >> 8 * j);
+}
+
+typedef struct {
+    uint64_t *times, *batch_times;
+    uint8_t *ids, *batch_ids, *needed, *expected;
+    size_t items, batch;
+    recon_session session;
+} long_fold;
+
+/* Takes in the ids of the needed list at which `leaves` holds, counted from its start. */
+static void take_from(long_fold *f, bool leaves(size_t)) {
+    size_t kept = 0, end = 32 * f->session.needed;
+    f->batch = 0;
+    memcpy(f->expected, f->needed, end);
+    for (size_t k = f->session.needed; k-- > 0;)
+        if (leaves(k)) {
+            const uint8_t *id = f->needed + 32 * k;
+            f->batch_times[f->batch] = LATEST - ((size_t)id[28] << 24 | (size_t)id[29] << 16 | (size_t)id[30] << 8 | id[31]);
+            memcpy(f->batch_ids + 32 * f->batch++, id, 32);
+        }
+    for (size_t k = 0; k < f->session.needed; k++)
+        if (!leaves(k))
+            memcpy(f->expected + 32 * kept++, f->needed + 32 * k, 32);
+    const size_t room = f->items + f->batch;
+    const recon_inquiry said = recon_fold_inquire(f->times, room, f->ids, 32 * room, f->items, f->session, f->needed, end, f->batch_times,
+                                                   f->batch, f->batch_ids, 32 * f->batch);
+    expect("what would leave a long list", is_inquiry(said, RECON_OK, f->batch, kept));
+    const recon_commit done = recon_fold_commit(f->times, room, f->ids, 32 * room, f->items, f->session, f->needed, end, f->batch_times, f->batch,
+                                                f->batch_ids, 32 * f->batch);
+    expect("what leaves a long list", is_commit(done, RECON_OK, room, (recon_session){4, kept, true}));
+    expect("the others stay, and what is behind them", memcmp(f->needed, f->expected, end) == 0);
+    f->items = done.items;
+    f->session = done.session;
+}
+
+static bool at_ends(size_t k) { return k == 0 || k % RECON_MAX_ITEMS < 2 || k % RECON_MAX_ITEMS == RECON_MAX_ITEMS - 1 || k == LONG_LIST - 1; }
+
+static bool each_third(size_t k) { return k % 3 == 1; }
+
+static bool first_few(size_t k) { return k < 5; }
+
+static void long_lists(void) {
+    long_fold f = {malloc(8 * RECON_MAX_ITEMS), malloc(8 * RECON_MAX_ITEMS), malloc(32 * RECON_MAX_ITEMS), malloc(32 * RECON_MAX_ITEMS),
+                   malloc((size_t)32 * LONG_LIST), malloc((size_t)32 * LONG_LIST), 0, 0, {4, LONG_LIST, true}};
+    if (f.times == NULL || f.batch_times == NULL || f.ids == NULL || f.batch_ids == NULL || f.needed == NULL || f.expected == NULL)
+        exit(2);
+    for (size_t k = 0; k < LONG_LIST; k++)
+        put_number(f.needed + 32 * k, 7 * k);
+    take_from(&f, at_ends);
+    take_from(&f, each_third);
+    take_from(&f, first_few);
+    size_t falling = 0;
+    while (falling + 1 < f.items && f.times[falling] < f.times[falling + 1] && memcmp(f.ids + 32 * falling, f.ids + 32 * (falling + 1), 32) > 0)
+        falling++;
+    expect("a table of later ids at earlier times", falling + 1 == f.items && f.items + f.session.needed == LONG_LIST);
+    free(f.times), free(f.batch_times), free(f.ids), free(f.batch_ids), free(f.needed), free(f.expected);
 }
 
 /* The refusal of an answer about a table of n items, with so many bytes of ids, or by this cut, or by this byte limit. */
@@ -902,6 +1406,7 @@ static void limits(void) {
     expect("one item more", by_size(t, most + 1, i, (most + 1) * RECON_ID_BYTES) == RECON_TABLE_SIZE);
     expect("the bytes of an id", by_size(t, 1, i, RECON_ID_BYTES) == RECON_OK && by_size(t, 1, i, RECON_ID_BYTES + 1) == RECON_TABLE_SIZE);
     largest_tree(t, i);
+    largest_folds(t, i);
     free(t);
     free(i);
     expect("the fewest parts", by_cut(RECON_MIN_PARTS, RECON_MIN_PARTS) == RECON_OK && by_cut(RECON_MIN_PARTS - 1, 64) == RECON_CUT_LIMITS);
@@ -970,6 +1475,12 @@ int main(void) {
     limit_refusals();
     done_within();
     sessions_within();
+    known_folds();
+    known_refusals();
+    fold_refusals();
+    many_folds();
+    unions();
+    long_lists();
     fingerprints();
     tree_bytes();
     tree_lengths();

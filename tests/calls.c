@@ -1085,15 +1085,14 @@ static void fold_refusals(void) {
         }
 }
 
-/* Fold by fold against what the specification says, item by item. */
-static uint64_t fold_state = 1;
-
+/* Numbers below n, the same in each run. */
 static size_t below(size_t n) {
-    fold_state = fold_state * 6364136223846793005u + 1442695040888963407u;
-    return (size_t)(fold_state >> 33) % n;
+    static uint64_t state = 1;
+    state = state * 6364136223846793005u + 1442695040888963407u;
+    return (size_t)(state >> 33) % n;
 }
 
-/* Where an item stands in a table, or should. */
+/* Where an item stands in a table, or would stand. */
 static size_t item_place(const uint64_t *t, const uint8_t *i, size_t n, uint64_t time, const uint8_t *id) {
     size_t at = 0;
     while (at < n && (t[at] < time || (t[at] == time && memcmp(i + 32 * at, id, 32) < 0)))
@@ -1129,7 +1128,7 @@ static void some_id(uint8_t id[32], size_t which) {
     id[31] = (uint8_t)(which / 2);
 }
 
-/* Up to so many items, of times below `times`; with a list, most of them have ids of it. */
+/* Up to so many items; where a list has ids, most of them have one of these. Answers how many they are. */
 static size_t some_items(uint64_t *t, uint8_t *i, size_t most, const uint8_t *list, size_t listed) {
     size_t n = 0;
     for (size_t k = below(most + 1); k > 0; k--) {
@@ -1150,7 +1149,7 @@ static void some_fold(fold *f) {
     f->session.marked = below(9);
     f->session.done = true;
     for (size_t which = 0; which < 8; which++)
-        if (below(4) > 0) /* in their order: first bytes count first */
+        if (below(4) > 0) /* in the order of ids, in which first bytes count first */
             some_id(f->needed + 32 * f->session.needed++, which / 4 + which % 4 * 2);
     f->needed_len = 32 * (f->session.needed + below(4));
     f->items = some_items(f->times, f->ids, 6, f->needed, 0);
@@ -1164,7 +1163,7 @@ static void some_fold(fold *f) {
         f->ids_len = 32 * f->items + below(32 * f->batch_times_len + 1);
 }
 
-/* The refusal, or 0 and all that was lent as it is afterwards. */
+/* What the specification says, item by item: 16, 17, or 0 and all that was lent as it is afterwards. */
 static uint64_t folded(const fold *f, fold *after) {
     memcpy(after, f, sizeof *after);
     for (size_t k = 0; k < f->batch_times_len; k++) {

@@ -955,7 +955,7 @@ static void put_fold(fold *f, const short_item *batch, size_t n) {
     f->session.done = true;
 }
 
-/* The same afterwards: its items, and its first needed ids by their first bytes. */
+/* The same afterwards: its items, and its needed ids by their first bytes. What stands behind them is what stood there before. */
 static void put_folded(fold *after, const fold *before, const short_item *items, size_t n, const uint8_t *needed, size_t count) {
     memcpy(after, before, sizeof *after);
     for (size_t k = 0; k < n; k++)
@@ -979,7 +979,6 @@ static void known_folds(void) {
         f.times_len = rooms[r][0];
         f.ids_len = rooms[r][1];
         put_folded(&after, &f, with_two, 4, third, 1);
-        expect("E21: what stood behind the shorter list", after.needed[32] == 3 && after.needed[64] == 4);
         folds("E21", &f, &after);
     }
     put_fold(&f, twice, 2);

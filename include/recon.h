@@ -215,21 +215,23 @@ recon_session_answer recon_take_within(const uint64_t *times, size_t times_len, 
                                        size_t marks_len, uint8_t *needed, size_t needed_len, uint8_t *out, size_t out_len);
 
 /* Folding in. Once a session is done, the opener's table can take the items that the other end hands over, a batch at a time. A batch is times
-   and ids, ordered like a table. The table is the first `items` of its buffers, which may be longer, and not of the same length.
-   Both calls make the same checks, in this order. 1: the buffers are too short for the items, these are more than RECON_MAX_ITEMS, or so are those
-   of the batch, or its id bytes are not 32 for each time. 2: the items of the table or those of the batch do not rise strictly, or a time is
-   2^64 - 1. 4: needed_len is not a multiple of 32, session.needed is more ids than that, or these do not rise strictly. 15: the session is not
-   done. 16: an id of the batch is not on the needed list, or an item of it, with this time and this id, is already in the table. 17: a buffer of
-   the table is too short for the merge, or that is more than RECON_MAX_ITEMS.
+   and ids, ordered like a table. The table is the first `items` of its buffers, which may be longer, and of different lengths.
+   Both calls make the same checks, in this order:
+      1  a buffer of the table is too short for its items, the batch's id bytes are not 32 for each time, or either has more than RECON_MAX_ITEMS
+      2  the items of the table or of the batch do not rise strictly, or a time is 2^64 - 1
+      4  needed_len is not a multiple of 32, has no room for session.needed ids, or these do not rise strictly
+     15  the session is not done
+     16  an id of the batch is not on the needed list, or its item, with this time and this id, is already in the table
+     17  a buffer of the table is too short for the merge, or that has more than RECON_MAX_ITEMS
    Neither is handed the marks or judges their count, so several commits can follow one session. The marks remain those of the items that the table
    had in the session, and a tree over the table has to be built anew after a commit.
-   Once no id is needed any more, and each item of the batches was handed over as the other end holds it, the table is the union of both, under
-   the conditions on which a session reports all, and if nothing else has changed either table since the opening. That an item has the time under
-   which the other end holds it cannot be checked here, since messages carry no times for ids. */
+   Once no id is needed any more, and each item was handed over as the other end holds it, the table is the union of both: under the conditions on
+   which a session reports all, and if nothing else has changed either table since the opening. That an item has the time under which the other
+   end holds it cannot be checked here, since messages carry no times for ids. */
 
-/* Tells what a commit of the batch would do, and changes nothing: how many items would enter, all of the batch, and how many ids would stay needed,
-   those that the batch has under no time. If nothing changes between, the commit is not refused, its items are so many more, and so many ids are
-   needed then; and where the inquiry is refused, it is refused by the same number.
+/* Tells what a commit of the batch would do, and changes nothing: how many items would enter the table, all of the batch, and how many ids would
+   stay needed, those that the batch does not have. If nothing changes between, the commit does so; and where the inquiry is refused, the commit is
+   refused by the same number.
    Refuses by 1, 2, 4 and 15 to 17. */
 recon_inquiry recon_fold_inquire(const uint64_t *times, size_t times_len, const uint8_t *ids, size_t ids_len, size_t items,
                                  recon_session session, const uint8_t *needed, size_t needed_len, const uint64_t *batch_times,

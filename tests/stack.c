@@ -1,5 +1,5 @@
-/* How much stack a take keeps, with and without a byte limit, at most 512 KiB, and a call on the largest tree of a table, at most 16 KiB. Each
-   runs on a stack of its own, every byte of which is written before; what is changed afterwards was used. */
+/* How much stack a take keeps, with and without a byte limit, at most 512 KiB, a call on the largest tree of a table, at most 16 KiB, and a call that
+   folds in, at most 400 KiB. Each runs on a stack of its own, every byte of which is written before; what is changed afterwards was used. */
 #define _GNU_SOURCE
 #include "recon.h"
 #include <pthread.h>
@@ -12,6 +12,8 @@
 #define LISTED 50
 #define LIMIT ((size_t)512 * 1024)
 #define TREE_LIMIT ((size_t)16 * 1024)
+#define FOLD_LIMIT ((size_t)400 * 1024)
+#define HALF (RECON_MAX_ITEMS / 2)
 #define STACK ((size_t)4 * 1024 * 1024)
 #define UNUSED 0xa5
 
@@ -24,6 +26,11 @@ static recon_session_answer answer;
 /* A table of as many items as one can have, and its tree. */
 static uint64_t *most_times;
 static uint8_t *most_ids, *tree;
+
+/* Half of it as a batch for the other half, and more needed ids than a table can have items. */
+static uint64_t *batch_times;
+static uint8_t *batch_ids, *list;
+static const recon_session finished = {0, RECON_MAX_ITEMS + HALF, true};
 
 /* SplitMix64. */
 static uint64_t next(uint64_t *state) {
@@ -74,6 +81,22 @@ static void *label(void *unused) {
     return NULL;
 }
 
+static void *inquire(void *unused) {
+    (void)unused;
+    answer.refusal = recon_fold_inquire(most_times, RECON_MAX_ITEMS, most_ids, 32 * RECON_MAX_ITEMS, HALF, finished, list, 32 * finished.needed,
+                                        batch_times, HALF, batch_ids, 32 * HALF)
+                         .refusal;
+    return NULL;
+}
+
+static void *commit(void *unused) {
+    (void)unused;
+    answer.refusal = recon_fold_commit(most_times, RECON_MAX_ITEMS, most_ids, 32 * RECON_MAX_ITEMS, HALF, finished, list, 32 * finished.needed,
+                                       batch_times, HALF, batch_ids, 32 * HALF)
+                         .refusal;
+    return NULL;
+}
+
 /* The bytes of stack that a call uses; it must answer this refusal. */
 static size_t used_by(void *call(void *), uint64_t refusal) {
     uint8_t *stack = aligned_alloc(4096, STACK);
@@ -102,23 +125,36 @@ static size_t used(void *call(void *), size_t ids, uint64_t refusal) {
     return used_by(call, refusal);
 }
 
+static size_t larger(size_t a, size_t b) { return a > b ? a : b; }
+
 /* The most that one of the calls on trees uses. */
 static size_t used_for_trees(void) {
-    void *(*const calls[])(void *) = {build, append, label};
-    size_t most = 0;
-    most_times = malloc(8 * RECON_MAX_ITEMS);
-    most_ids = calloc(RECON_MAX_ITEMS, 32);
     tree = malloc(recon_tree_bytes(RECON_MAX_ITEMS));
-    if (most_times == NULL || most_ids == NULL || tree == NULL) exit(2);
+    if (tree == NULL) exit(2);
     for (size_t i = 0; i < RECON_MAX_ITEMS; i++) most_times[i] = i;
-    for (size_t i = 0; i < sizeof calls / sizeof calls[0]; i++) {
-        size_t bytes = used_by(calls[i], 0);
-        if (bytes > most) most = bytes;
-    }
-    free(most_times);
-    free(most_ids);
+    size_t built = used_by(build, 0), appended = used_by(append, 0), labelled = used_by(label, 0);
     free(tree);
-    return most;
+    return larger(built, larger(appended, labelled));
+}
+
+/* The most that an inquiry or a commit uses. Table and batch alternate by their times, and every third needed id is the batch's. */
+static size_t used_for_folds(void) {
+    batch_times = malloc(8 * HALF);
+    batch_ids = malloc(32 * HALF);
+    list = calloc(finished.needed, 32);
+    if (batch_times == NULL || batch_ids == NULL || list == NULL) exit(2);
+    for (size_t i = 0; i < finished.needed; i++)
+        for (size_t j = 0; j < 4; j++) list[32 * i + j] = (uint8_t)(i >> (24 - 8 * j));
+    for (size_t i = 0; i < HALF; i++) {
+        most_times[i] = 2 * i;
+        batch_times[i] = 2 * i + 1;
+        memcpy(batch_ids + 32 * i, list + 32 * 3 * i, 32);
+    }
+    size_t asked = used_by(inquire, 0), merged = used_by(commit, 0);
+    free(batch_times);
+    free(batch_ids);
+    free(list);
+    return larger(asked, merged);
 }
 
 static size_t put_varint(size_t at, size_t value) {
@@ -160,8 +196,16 @@ int main(void) {
         printf("the next query has %zu bytes, and with a byte limit %zu\n", whole, cut_short);
         return 1;
     }
-    size_t refused = used(take, THEIRS - 1, 11), refused_within = used(take_within, THEIRS - 1, 11), trees = used_for_trees();
-    printf("a take keeps %zu KiB on the stack, with a byte limit %zu KiB, one that is refused by 11 %zu and %zu KiB, a call on a tree %zu KiB\n",
-           joined / 1024, within / 1024, refused / 1024, refused_within / 1024, trees / 1024);
-    return joined <= LIMIT && within <= LIMIT && refused <= LIMIT && refused_within <= LIMIT && trees <= TREE_LIMIT ? 0 : 1;
+    most_times = malloc(8 * RECON_MAX_ITEMS);
+    most_ids = calloc(RECON_MAX_ITEMS, 32);
+    if (most_times == NULL || most_ids == NULL) exit(2);
+    size_t refused = used(take, THEIRS - 1, 11), refused_within = used(take_within, THEIRS - 1, 11);
+    size_t trees = used_for_trees(), folds = used_for_folds();
+    printf("a take keeps %zu KiB on the stack, with a byte limit %zu KiB, one that is refused by 11 %zu and %zu KiB, a call on a tree %zu KiB, "
+           "one that folds in %zu KiB\n",
+           joined / 1024, within / 1024, refused / 1024, refused_within / 1024, trees / 1024, folds / 1024);
+    free(most_times);
+    free(most_ids);
+    const size_t takes = larger(larger(joined, within), larger(refused, refused_within));
+    return takes <= LIMIT && trees <= TREE_LIMIT && folds <= FOLD_LIMIT ? 0 : 1;
 }

@@ -1,6 +1,7 @@
 /* Folding in, against plain C: inquiry and commit of batches of 1 to 524,288 items, into a table that has 1,048,576 with them, from needed lists of
-   524,288 and 1,048,576 ids. Each time is the least of several turns; proved code and plain C alternate, and each turn begins with the other one.
-   Before each call its buffers are made anew, untimed, and at the end of each turn all are compared. Prints a table. */
+   524,288 and 1,048,576 ids, which are digests or share their first bytes. Each time is the least of several turns; proved code and plain C
+   alternate, and each turn begins with the other one. Before each call its buffers are made anew, untimed, and at the end of each turn all are
+   compared. Prints a table. */
 #include <stdio.h>
 #include <stdlib.h>
 #include <string.h>
@@ -16,6 +17,7 @@ typedef struct {
     uint64_t *all_times, *times, *batch_times;
     uint8_t *all_ids, *ids, *batch_ids, *needed;
     size_t batch, count;
+    bool shared;
 } input;
 
 static fold proved, plain;
@@ -137,6 +139,12 @@ static void refusals(const input *in) {
     REFUSED(17, BOTH(ids_len) -= 1);
 }
 
+/* Leaves the last eight bytes of each id alone. */
+static void share(uint8_t *ids, size_t n) {
+    for (size_t i = 0; i < n; i++)
+        memset(ids + 32 * i, 7, 24);
+}
+
 /* Takes so many items out of all of them, each as likely as any other. */
 static void choose_batch(input *in, size_t batch) {
     size_t items = 0;
@@ -162,12 +170,14 @@ static void choose_needed(input *in, size_t count) {
         uint64_t word = next();
         memcpy(in->needed + at, &word, 8);
     }
+    if (in->shared)
+        share(in->needed, count);
     qsort(in->needed, count, 32, by_bytes);
 }
 
 static void print_row(const input *in, const double t[WAYS]) {
-    printf("| %zu | %zu | %.2f ms | %.2f | %.2f ms | %.2f |\n", in->count, in->batch, 1e3 * t[PROVED_INQUIRY],
-           t[PROVED_INQUIRY] / t[PLAIN_INQUIRY], 1e3 * t[PROVED_COMMIT], t[PROVED_COMMIT] / t[PLAIN_COMMIT]);
+    printf("| %s | %zu | %zu | %.2f ms | %.2f | %.2f ms | %.2f |\n", in->shared ? "share 24 bytes" : "digests", in->count, in->batch,
+           1e3 * t[PROVED_INQUIRY], t[PROVED_INQUIRY] / t[PLAIN_INQUIRY], 1e3 * t[PROVED_COMMIT], t[PROVED_COMMIT] / t[PLAIN_COMMIT]);
     fflush(stdout);
 }
 
@@ -177,10 +187,20 @@ static void *room(size_t bytes) {
     return memory;
 }
 
+static void run_row(input *in, size_t count, size_t batch) {
+    double best[WAYS];
+    choose_batch(in, batch);
+    choose_needed(in, count);
+    measure(in, best);
+    print_row(in, best);
+    refusals(in);
+}
+
 int main(void) {
     static const size_t counts[] = {524288, 1048576}, batches[] = {1, 1000, 32768, 524288};
     const size_t times_bytes = 8 * (size_t)ITEMS, ids_bytes = 32 * (size_t)ITEMS;
-    input in = {room(times_bytes), room(times_bytes), room(times_bytes), room(ids_bytes), room(ids_bytes), room(ids_bytes), room(ids_bytes), 0, 0};
+    input in = {room(times_bytes), room(times_bytes), room(times_bytes), room(ids_bytes), room(ids_bytes), room(ids_bytes), room(ids_bytes),
+                0, 0, false};
     fold *const both[2] = {&proved, &plain};
     for (int i = 0; i < 2; i++) {
         both[i]->times = room(times_bytes);
@@ -188,16 +208,14 @@ int main(void) {
         both[i]->needed = room(ids_bytes);
     }
     fill(in.all_times, in.all_ids, ITEMS);
-    printf("| needed ids | items of the batch | inquiry | / plain C | commit | / plain C |\n|---|---|---|---|---|---|\n");
+    printf("| ids | needed | items of the batch | inquiry | / plain C | commit | / plain C |\n|---|---|---|---|---|---|---|\n");
     for (size_t c = 0; c < 2; c++)
-        for (size_t b = 0; b < sizeof batches / sizeof *batches; b++) {
-            double best[WAYS];
-            choose_batch(&in, batches[b]);
-            choose_needed(&in, counts[c]);
-            measure(&in, best);
-            print_row(&in, best);
-            refusals(&in);
-        }
+        for (size_t b = 0; b < 4; b++)
+            run_row(&in, counts[c], batches[b]);
+    in.shared = true;
+    share(in.all_ids, ITEMS);
+    for (size_t b = 2; b < 4; b++)
+        run_row(&in, counts[1], batches[b]);
     for (int i = 0; i < 2; i++)
         free(both[i]->times), free(both[i]->ids), free(both[i]->needed);
     free(in.all_times), free(in.times), free(in.batch_times), free(in.all_ids), free(in.ids), free(in.batch_ids), free(in.needed);

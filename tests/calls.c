@@ -1308,13 +1308,13 @@ static void largest_folds(uint64_t *t, uint8_t *i) {
     free(ids_then);
 }
 
-/* A needed list of more ids than a table can have items. Ids differ at their ends alone; a later id has an earlier time. */
+/* A needed list of more ids than a table can have items. Thousands of them share their first eight bytes; a later id has an earlier time. */
 enum { LONG_LIST = 2 * RECON_MAX_ITEMS + 3, LATEST = 1 << 30 };
 
 static void put_number(uint8_t *id, size_t k) {
     memset(id, 0, 32);
     for (size_t j = 0; j < 4; j++)
-        id[31 - j] = (uint8_t)(k >> 8 * j);
+        id[9 - j] = (uint8_t)(k >> 8 * j);
 }
 
 typedef struct {
@@ -1332,7 +1332,7 @@ static void take_from(long_fold *f, bool leaves(size_t)) {
     for (size_t k = f->session.needed; k-- > 0;)
         if (leaves(k)) {
             const uint8_t *id = f->needed + 32 * k;
-            f->batch_times[f->batch] = LATEST - ((size_t)id[28] << 24 | (size_t)id[29] << 16 | (size_t)id[30] << 8 | id[31]);
+            f->batch_times[f->batch] = LATEST - ((size_t)id[6] << 24 | (size_t)id[7] << 16 | (size_t)id[8] << 8 | id[9]);
             memcpy(f->batch_ids + 32 * f->batch++, id, 32);
         }
     for (size_t k = 0; k < f->session.needed; k++)

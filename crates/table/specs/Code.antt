@@ -22,6 +22,9 @@ numberOf Refusal.NeededFull = 11
 numberOf Refusal.NoRoom = 12
 numberOf Refusal.WrongTree = 13
 numberOf Refusal.ByteLimit = 14
+numberOf Refusal.SessionOpen = 15
+numberOf Refusal.NotDue = 16
+numberOf Refusal.TableFull = 17
 
 abbrev pub checkedOf : Checked → Answer (Unit {0})
 checkedOf Checked.Passed = answer tt

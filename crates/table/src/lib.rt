@@ -38,6 +38,12 @@ pub enum Refusal {
     WrongTree,
     // 14: the byte limit is below 4,096
     ByteLimit,
+    // 15: the session is not done
+    SessionOpen,
+    // 16: an id of the batch is not on the needed list, or its item is already in the table
+    NotDue,
+    // 17: the table's buffers cannot hold the merge, or it has too many items
+    TableFull,
 }
 
 impl Refusal {
@@ -60,6 +66,9 @@ impl Refusal {
             Refusal::NoRoom => 12,
             Refusal::WrongTree => 13,
             Refusal::ByteLimit => 14,
+            Refusal::SessionOpen => 15,
+            Refusal::NotDue => 16,
+            Refusal::TableFull => 17,
         }
     }
 

@@ -21,9 +21,14 @@ use Rattle.ends.specs.Opener.{Lent, neededIds, capacity, wrongBuffers, w
 use Rattle.ends.proofs.Lists.{overwrite-front}
 use Rattle.ends.proofs.Relations.{leaves}
 
+-- to go by what a call answered and keep the equation
+pub byAnswer : {C : Type 0} (r : Answer ℕ) → ((n : ℕ) → r ≡ answer n → C) → ((k : ℕ) → r ≡ refused k → C) → C
+byAnswer (answer n) f g = f n refl
+byAnswer (refused k) f g = g k refl
+
 -- ---- one check after another
 
-passed : {X : Type 0} (k : ℕ) (wrong : Bool) (next : Answer X) {x : X} → refuseIf k wrong next ≡ answer x → (wrong ≡ false) × (next ≡ answer x)
+pub passed : {X : Type 0} (k : ℕ) (wrong : Bool) (next : Answer X) {x : X} → refuseIf k wrong next ≡ answer x → (wrong ≡ false) × (next ≡ answer x)
 passed k true next e = differ (cc)
 passed k false next e = (refl, e)
 
@@ -37,11 +42,11 @@ was-read : {X : Type 0} (o : Outcome (List Range)) (next : List Range → Answer
 was-read (read rs rest) next e = (rs, rest, refl, e)
 was-read (Reader.refused k) next e = differ (cc)
 
-unrefused-result : {L : Type 0} (before : L) (r : Answer (ℕ × L)) (n : ℕ) → result before r .answer ≡ answer n → r ≡ answer (n, result before r .lent)
+pub unrefused-result : {L : Type 0} (before : L) (r : Answer (ℕ × L)) (n : ℕ) → result before r .answer ≡ answer n → r ≡ answer (n, result before r .lent)
 unrefused-result before (answer r) n e = let z : r .0 ≡ n = cc in rw (← z)
 unrefused-result before (refused k) n e = differ (cc)
 
-refused-result : {L : Type 0} (before : L) (r : Answer (ℕ × L)) (k : ℕ) → result before r .answer ≡ refused k → result before r .lent ≡ before
+pub refused-result : {L : Type 0} (before : L) (r : Answer (ℕ × L)) (k : ℕ) → result before r .answer ≡ refused k → result before r .lent ≡ before
 refused-result before (answer r) k e = differ (cc)
 refused-result before (refused j) k e = refl
 
@@ -74,7 +79,7 @@ checked-within limit T c next e =
     (w .0, z .0, z .1)
 
 -- the two parts of what a call left
-both : {L : Type 0} {n n′ : ℕ} {l l′ : L} → _≡_ {A = Answer (ℕ × L)} (answer (n, l)) (answer (n′, l′)) → (n ≡ n′) × (l′ ≡ l)
+pub both : {L : Type 0} {n n′ : ℕ} {l l′ : L} → _≡_ {A = Answer (ℕ × L)} (answer (n, l)) (answer (n′, l′)) → (n ≡ n′) × (l′ ≡ l)
 both {L} {n} {n′} {l} {l′} e =
     let z : _≡_ {A = ℕ × L} (n, l) (n′, l′) = cc in
     (ap (λ (y : ℕ × L). y .0) z, ap (λ (y : ℕ × L). y .1) (sym z))

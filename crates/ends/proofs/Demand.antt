@@ -8,7 +8,7 @@ use lib.ListN.{length}
 use Rattle.message.specs.WellFormed.{Bytes}
 use Rattle.theory.specs.Rounds.{Cut}
 use Rattle.theory.specs.Demand.{Enough}
-use Rattle.table.specs.Answer.{Answer, answer, refused}
+use Rattle.table.specs.Answer.{answer, refused}
 use Rattle.table.specs.Table.{Table, items}
 use Rattle.limit.specs.Limit.{unlimited, exceeds}
 use Rattle.ends.specs.Calls.{Result}
@@ -17,14 +17,10 @@ use Rattle.ends.specs.Demand.{Take, Place, one, opening, Reported, call,
 use Rattle.ends.specs.Takes as takes
 use Rattle.ends.specs.Takes.{Run, none, then-refused, then-taken, Row}
 use Rattle.ends.proofs.Tables.{Kept, kept}
-use Rattle.ends.proofs.Calls.{Checked, byChecks, answer-checks, unrefused-opening, refused-take}
+use Rattle.ends.proofs.Calls.{byAnswer, Checked, byChecks, answer-checks, unrefused-opening, refused-take}
 use Rattle.ends.proofs.Relations.{Begun}
 use Rattle.ends.proofs.Takes.{Lawful, Narrows, reported, owed-at, reported-never, owed-never, all-whole, row-fewer}
 use Rattle.ends.proofs.Own.{opening-begun, first-divided, answer-replied, answer-nests, take-took, take-divides}
-
-byAnswer : {C : Type 0} (r : Answer ℕ) → ((n : ℕ) → r ≡ answer n → C) → ((k : ℕ) → r ≡ refused k → C) → C
-byAnswer (answer n) f g = f n refl
-byAnswer (refused k) f g = g k refl
 
 module _ (A B : Table) (a b : Cut) where
   -- ---- the takes

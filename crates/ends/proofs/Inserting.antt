@@ -1,15 +1,16 @@
--- Ids inserted into a list that rises: it stays so.
-use Prim.Native.Nat.{ℕ, suc, _≤_, _<_}
+-- Ids inserted into a list that rises, or left out of it: it stays so; so do its beginning and its end.
+use Prim.Native.Nat.{ℕ, zero, suc, _≤_, _<_}
 use mathlib.Core.Path.{_≡_, refl, ap}
-use mathlib.Core.Bool.{true, false}
+use mathlib.Core.Bool.{Bool, true, false}
 use mathlib.Core.List.{List, [], _∷_, foldr}
 use native.Mathlib.Omega.{arith}
 use lib.Dec.{ltb, eqb}
+use lib.ListN.{take, drop}
 use borrow.Author.Tests.{ltb-true, ltb-false, lt-ltb, le-ltb, eqb-true, eqb-false}
 use Rattle.message.specs.Bound.{bigEndian}
 use Rattle.message.specs.WellFormed.{All, Sized}
 use Rattle.message.proofs.Exact.{byTest}
-use Rattle.table.specs.Lists.{rising}
+use Rattle.table.specs.Lists.{keep, rising}
 use Rattle.table.proofs.Keys.{Ascending, ascends}
 use Rattle.ends.specs.Lists.{same}
 use Rattle.ends.specs.Opener.{insert}
@@ -83,3 +84,34 @@ insert-sorted d l h s = record {
 pub added-sorted : (l us : List (List ℕ)) → All (Sized 32) us → Sorted l → Sorted (foldr insert l us)
 added-sorted l [] h s = s
 added-sorted l (u ∷ us) h s = insert-sorted u (foldr insert l us) (h .0) (added-sorted l us (h .1) s)
+
+-- ---- ids left out
+
+-- a part of a list that rises does so
+keep-ascends : (p : List ℕ → Bool) (lo hi : ℕ) (l : List (List ℕ)) → lo ≤ hi → Ascending hi (numbers l) → Ascending lo (numbers (keep p l))
+unfolding keep
+keep-ascends p lo hi [] h a = tt
+keep-ascends p lo hi (d ∷ l) h a =
+    let b = a .0 in
+    byTest (p d)
+    (λ e. rw e (omega arith, keep-ascends p (suc (bigEndian 32 d)) (suc (bigEndian 32 d)) l (omega arith) (a .1)))
+    (λ e. rw e (keep-ascends p lo (suc (bigEndian 32 d)) l (omega arith) (a .1)))
+
+pub keep-rises : (p : List ℕ → Bool) (l : List (List ℕ)) → rising (numbers l) ≡ true → rising (numbers (keep p l)) ≡ true
+keep-rises p l h = ascends-rise 0 (numbers (keep p l)) (keep-ascends p 0 0 l (omega arith) (ascends (numbers l) h))
+
+front-ascends : (lo n : ℕ) (l : List (List ℕ)) → Ascending lo (numbers l) → Ascending lo (numbers (take n l))
+front-ascends lo zero l a = tt
+front-ascends lo (suc n) [] a = tt
+front-ascends lo (suc n) (d ∷ l) a = (a .0, front-ascends (suc (bigEndian 32 d)) n l (a .1))
+
+pub front-rises : (n : ℕ) (l : List (List ℕ)) → rising (numbers l) ≡ true → rising (numbers (take n l)) ≡ true
+front-rises n l e = ascends-rise 0 (numbers (take n l)) (front-ascends 0 n l (ascends (numbers l) e))
+
+back-rises-from : (lo n : ℕ) (l : List (List ℕ)) → Ascending lo (numbers l) → rising (numbers (drop n l)) ≡ true
+back-rises-from lo zero l a = ascends-rise lo (numbers l) a
+back-rises-from lo (suc n) [] a = ascends-rise lo [] tt
+back-rises-from lo (suc n) (d ∷ l) a = back-rises-from (suc (bigEndian 32 d)) n l (a .1)
+
+pub back-rises : (n : ℕ) (l : List (List ℕ)) → rising (numbers l) ≡ true → rising (numbers (drop n l)) ≡ true
+back-rises n l e = back-rises-from 0 n l (ascends (numbers l) e)

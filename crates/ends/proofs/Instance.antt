@@ -56,13 +56,13 @@ one-time i j mi mj e = by (List·Memᴰ·cases-cons mi) (List·Memᴰ·cases-con
     by (inr p) (inl q) = two-ids (sym (id-of q) ∙ sym e ∙ id-of (List·Memᴰ·eq-of-singleton p))
     by (inr p) (inr q) = time-of (List·Memᴰ·eq-of-singleton p ∙ sym (List·Memᴰ·eq-of-singleton q))
 
-not-both : {C : Type 0} {k n : ℕ} → _≡_ {A = Answer ℕ} (refused k) (answer n) → C
+pub not-both : {C : Type 0} {k n : ℕ} → _≡_ {A = Answer ℕ} (refused k) (answer n) → C
 not-both e = let z : _≡_ {A = ℕ} 0 1 = cc in absurd (omega arith)
 
 -- ---- no range with a fingerprint
 
 -- a message of one range, with ids
-abbrev Lists : List ℕ → Type 0
+abbrev pub Lists : List ℕ → Type 0
 Lists m = (l : List (List ℕ)) × (readMessage m ≡ read (range infinity (ids l) ∷ []) [])
 
 no-fingerprint : {m : List ℕ} {x y : Bound} → Lists m → Fingerprinted m x y → ⊥
@@ -74,7 +74,7 @@ no-fingerprint {x = x} {y = y} h f =
     let q : _≡_ {A = Payload} (fingerprint (f .bytes)) (ids (h .0)) = ap (λ (w : Bound × Bound × Payload). w .2) p in
     let n : _≡_ {A = ℕ} 0 1 = cc in omega arith
 
-none-collides : (A B : Table) (p : Place) (q r : List ℕ) → p .handed ≡ (q, r) ∷ [] → Lists q → Lists r → NoneCollides A B p
+pub none-collides : (A B : Table) (p : Place) (q r : List ℕ) → p .handed ≡ (q, r) ∷ [] → Lists q → Lists r → NoneCollides A B p
 none-collides A B p q r h lq lr i c =
     let k = c .compared in
     let e : _≡_ {A = List ℕ × List ℕ} (k .query, k .reply) (q, r) = List·Memᴰ·eq-of-singleton (rw h at (k .handed)) in

@@ -3,16 +3,16 @@
 -- Ranges, Messages, Projection   what the two ends write can be carried by a message, and is what the theory's ends send
 -- Relations   what the theorem asks of an opening, of a reply and of an unrefused take: `Begun`, `Replied`, `Took`
 -- Reports     marks and needed ids are those of the theory
--- Inserting   ids inserted into a list that rises: it stays so
+-- Inserting   ids inserted into a list that rises, or left out of it: it stays so
 -- Calls       what an unrefused call went through, and what a refused take leaves
 -- Passing     what an unrefused call leaves passes check 4
 -- Versions    the answer by the first byte of the query, `answers-by-version`; the opener sends 61, `sends-61`
 -- Simulation  a place and the theory's session that agrees with it: at the opening, after a refused take, after an unrefused one
 -- Owed        what the theory claims of a session is so of the place
--- Takes       the theorem about lists of takes that differ in kind: `reported`, `owed-at`
+-- Takes       the theorem about lists of takes that differ in kind: `reported`, `owed-at`; the needed list is whole ids, `listed`
 -- Own         the calls of the two ends meet the relations
 -- Demand      the theorem for takes that are all alike, `demand3`
--- Mixed       takes and answers with byte limits, `demand3-mixed`
+-- Mixed       takes and answers with byte limits, `demand3-mixed`; what a session that is done left, `ended`
 -- Finished    what finished sessions report, `whoever-opens`
 -- Replies     lawful replies of any kind, `true-and-complete`
 -- Instance    all that `Demand3`, `WhoeverOpens` and `TrueAndComplete` ask for, met on bytes

@@ -1,26 +1,44 @@
--- Each call of either end may be given a byte limit: `demand3-mixed`.
+-- Each call of either end may be given a byte limit: `demand3-mixed`; and what a session that is done left, `ended`.
 use Prim.Native.Nat.{ℕ}
 use mathlib.Core.Path.{_≡_}
-use mathlib.Core.List.{List}
+use mathlib.Core.Bool.{true}
+use mathlib.Core.List.{List, _++_}
+use lib.ListN.{length}
+use Rattle.message.specs.WellFormed.{Bytes}
 use Rattle.theory.specs.Message.{Message}
 use Rattle.theory.specs.Rounds.{Cut, Nested}
-use Rattle.table.specs.Answer.{answer}
-use Rattle.table.specs.Table.{Table}
+use Rattle.theory.specs.Demand.{Enough}
+use Rattle.theory.proofs.Tests.{clash}
+use Rattle.table.specs.Answer.{answer, refused}
+use Rattle.table.specs.Table.{Table, items}
 use Rattle.limit.specs.Limit.{Limit, unlimited}
 use Rattle.ends.specs.Opener.{Lent, openedWithin}
-use Rattle.ends.specs.Mixed.{TakeWithin, handedTo, openingWithin, taking, AnswersWithin, Answered, WholeReply, WholeQuery, WholeFirst, Demand3Mixed}
+use Rattle.ends.specs.Demand.{Place, Reported, OneTime}
+use Rattle.ends.specs.Takes.{Owed}
+use Rattle.ends.specs.Mixed.{TakeWithin, handedTo, openingWithin, taking, AnswersWithin, Answered, WholeReply, WholeQuery, WholeFirst, Takes, Demand3Mixed}
+use Rattle.ends.proofs.Lists.{Listed}
 use Rattle.ends.proofs.Tables.{Kept, kept}
 use Rattle.ends.proofs.Calls.{Checked, byChecks, answer-checks, unrefused-opening, refused-take}
-use Rattle.ends.proofs.Relations.{Means, means-alone}
-use Rattle.ends.proofs.Takes.{Lawful, Narrows, owed-at, owed-never}
+use Rattle.ends.proofs.Relations.{Means, means-alone, Begun}
+use Rattle.ends.proofs.Takes.{Lawful, Narrows, reported, owed-at, listed, open-never, owed-never}
 use Rattle.ends.proofs.Own.{opening-begun, first-divided, answer-replied, answer-nests, take-took, take-divides}
 
+-- What a session that is done left: it was handed an answer, so that the responder's table and cut passed checks 1 to 3; its reports are as owed; and its needed list
+-- is whole ids.
+pub record Ended (A B : Table) (b : Cut) (p : Place) : Type 0 where
+  pub checks : Checked B b
+  pub reports : Reported A B p
+  pub list : Listed (p .session .needed) (p .needed)
+
 module _ (A B : Table) (a b : Cut) where
+  refuses : (x : TakeWithin) (l : Lent) (k : ℕ) → taking A B a b x l .answer ≡ refused k → taking A B a b x l .lent ≡ l
+  refuses x l k e = refused-take (x .limit) A a (x .handed .reply) l k e
+
   -- a responder that passes checks 1 to 3
   module _ (kA : Kept A a) (kB : Kept B b) where
     abbrev lawful : Lawful handedTo (taking A B a b) (Answered A B a b) A B a
     lawful = record {
-      refuses = λ x l k e. refused-take (x .limit) A a (x .handed .reply) l k e;
+      refuses = refuses;
       takes = λ x l n e h w. take-took (x .limit) A a kA (x .handed .reply) l n e w;
       replies = λ x h w. answer-replied (h .0) B b kB (x .handed .query) (x .handed .reply) (h .1 .out) (h .1 .size) (h .1 .unrefused) (h .1 .written) w;
     }
@@ -46,15 +64,37 @@ module _ (A B : Table) (a b : Cut) where
   never : (Checked B b → ⊥) → (x : TakeWithin) → Answered A B a b x → ⊥
   never fails x h = fails (answer-checks (h .0) B b (x .handed .query) (h .1 .out) (h .1 .size) (h .1 .unrefused))
 
+  module _ (bytes-A : Bytes (A .ids)) (bytes-B : Bytes (B .ids)) (limit : Limit) (lent : Lent) (n : ℕ) (e : openedWithin limit A a lent .answer ≡ answer n) where
+    kA : Kept A a
+    kA = let w = unrefused-opening limit A a lent n e .checks in kept A a bytes-A (w .size) (w .order) (w .limits)
+
+    kB : Checked B b → Kept B b
+    kB c = kept B b bytes-B (c .size) (c .order) (c .limits)
+
+    abbrev o : Place
+    o = openingWithin limit A a lent
+
+    abbrev begun : Begun A o
+    begun = opening-begun limit A a kA lent n e
+
+    all-owed : OneTime (items A ++ items B) → (L : ℕ) → Enough a (length (A .times)) L → {p : Place} (ρ : Takes A B a b limit lent p)
+        → Owed handedTo (taking A B a b) (Answered A B a b) (WholeFirst A B a b limit) (WholeReply A B a b) (WholeQuery A B a b) A B L ρ
+    all-owed once L enough ρ =
+        byChecks B b
+        (λ c. owed-at handedTo (taking A B a b) (Answered A B a b) A B a (WholeFirst A B a b limit) (WholeReply A B a b) (WholeQuery A B a b)
+        (lawful kA (kB c)) o begun kA (kB c .own) once (narrows kA (kB c) limit lent n e) L enough ρ)
+        (λ fails. owed-never handedTo (taking A B a b) (Answered A B a b) A B a (never fails) refuses
+        o begun (WholeFirst A B a b limit) (WholeReply A B a b) (WholeQuery A B a b) L ρ)
+
+    pub ended : OneTime (items A ++ items B) → {p : Place} → Takes A B a b limit lent p → p .session .done ≡ true → Ended A B b p
+    ended once ρ done =
+        let c : Checked B b =
+        byChecks B b (λ c. c) (λ fails. clash done (open-never handedTo (taking A B a b) (Answered A B a b) A B a (never fails) refuses o begun ρ)) in
+        record {
+          checks = c;
+          reports = reported handedTo (taking A B a b) (Answered A B a b) A B a (lawful kA (kB c)) o begun kA (kB c .own) once ρ;
+          list = listed handedTo (taking A B a b) (Answered A B a b) A B a (lawful kA (kB c)) o begun kA ρ;
+        }
+
 pub demand3-mixed : Demand3Mixed
-demand3-mixed A B a b bytes-A bytes-B once L smallest limit lent n e p ρ =
-    let w = unrefused-opening limit A a lent n e .checks in
-    let kA = kept A a bytes-A (w .size) (w .order) (w .limits) in
-    let begun = opening-begun limit A a kA lent n e in
-    let o = openingWithin limit A a lent in
-    byChecks B b
-    (λ c. let kB = kept B b bytes-B (c .size) (c .order) (c .limits) in
-    owed-at handedTo (taking A B a b) (Answered A B a b) A B a (WholeFirst A B a b limit) (WholeReply A B a b) (WholeQuery A B a b)
-    (lawful A B a b kA kB) o begun kA (kB .own) once (narrows A B a b kA kB limit lent n e) L (smallest .enough) ρ)
-    (λ fails. owed-never handedTo (taking A B a b) (Answered A B a b) A B a (never A B a b fails) (λ x l k e. refused-take (x .limit) A a (x .handed .reply) l k e)
-    o begun (WholeFirst A B a b limit) (WholeReply A B a b) (WholeQuery A B a b) L ρ)
+demand3-mixed A B a b bytes-A bytes-B once L smallest limit lent n e p ρ = all-owed A B a b bytes-A bytes-B limit lent n e once L (smallest .enough) ρ

@@ -1,6 +1,6 @@
 -- The one theorem about lists of takes, whatever their kinds: if the opening, each reply and each take meet the relations of Relations.antt, reports are true and
 -- complete at every place (`reported`), and a row of L + 1 takes whose messages are not cut short ends in done (`owed-at`). The list of takes becomes one of the
--- theory (`Reached`), step by step, and there the claim is `sound`, `complete` and `rounds`.
+-- theory (`Reached`), step by step, and there the claim is `sound`, `complete` and `rounds`. The needed list is whole ids (`listed`).
 use Prim.Native.Nat.{ℕ, zero, suc, _≤_}
 use mathlib.Core.Path.{_≡_, refl, ap, _∙_}
 use mathlib.Core.Bool.{true, false}
@@ -27,7 +27,7 @@ use Rattle.ends.specs.Opener.{Lent}
 use Rattle.ends.specs.Demand.{Take, Place, Reported, OneTime}
 use Rattle.ends.specs.Takes.{lentAt, Run, none, then-refused, then-taken, Row, Whole, Owed}
 use Rattle.ends.proofs.Tables.{Kept, keysOf}
-use Rattle.ends.proofs.Lists.{paired-member}
+use Rattle.ends.proofs.Lists.{paired-member, Listed}
 use Rattle.ends.proofs.Relations.{Means, means-alone, Begun, Replied, Took}
 use Rattle.ends.proofs.Simulation.{Agrees, begun-agrees, after, refused-agrees, taken-agrees, took}
 use Rattle.ends.proofs.Owed.{one-time}
@@ -227,6 +227,12 @@ module _ {X : Type 0} (handed : X → Take) (call : X → Lent → Result Lent) 
       ends = λ whole row. row-ends lawful o begun F R Q kA z L enough ρ row whole;
     }
 
+  -- the needed list is whole ids, as many as the session counts
+  pub listed : Lawful → (o : Place) → Begun A o → Kept A a → {p : Place} → Run handed call Allowed o p → Listed (p .session .needed) (p .needed)
+  listed lawful o begun kA ρ =
+      let w = reached lawful o begun (Unit {0}) (λ x. Unit {0}) (λ x. Unit {0}) kA ρ .agrees in
+      record { ids = w .ids; sized = w .sized; list = w .list; count = w .count }
+
   -- ---- where no reply is allowed, as where the responder's table is refused: every take is refused
 
   module _ (never : (x : X) → Allowed x → ⊥) where
@@ -257,6 +263,9 @@ module _ {X : Type 0} (handed : X → Take) (call : X → Lent → Result Lent) 
             going = ap (λ (l : Lent). l .session .done) left ∙ z .going;
           }
       as-opened (then-taken ρ x n e mem h) = absurd (never x h)
+
+      pub open-never : {p : Place} → Run handed call Allowed o p → p .session .done ≡ false
+      open-never ρ = as-opened ρ .going
 
       pub reported-never : {p : Place} → Run handed call Allowed o p → Reported A B p
       reported-never {p} ρ =

@@ -42,7 +42,7 @@ pub fn same_id(a: &[u8], b: &[u8]) -> bool
 }
 
 // Whether the id that begins a slice stands at a place of another. Its first eight bytes are compared as one word: most ids differ there.
-fn stands_at(list: &[u8], at: usize, id: &[u8], first: u64) -> bool
+pub fn stands_at(list: &[u8], at: usize, id: &[u8], first: u64) -> bool
     requires { ⌜ (at + 32 ≤ length (now list)) × (32 ≤ length (now id)) × (first ≡ bigEndian 8 (now id)) ⌝ }
     ensures { λ r. ⌜ r ≡ same (take 32 (now (id .entry))) (take 32 (drop at (now (list .entry)))) ⌝ }
 {

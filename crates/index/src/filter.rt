@@ -90,7 +90,7 @@ fn lies_inside(word: u64, low: u64, high: u64) -> bool
 }
 
 // The first of the ids from number j on whose word lies from `low` to `high`, or `count` where none does.
-pub(crate) fn next_inside(list: &[u8], j: usize, count: usize, low: u64, high: u64) -> usize
+pub fn next_inside(list: &[u8], j: usize, count: usize, low: u64, high: u64) -> usize
     requires { ⌜ (j ≤ count) × (count * 32 ≤ length (now list)) ⌝ }
     ensures { λ r. ⌜ (j ≤ r) × (r ≤ count) × ((i : ℕ) → j ≤ i → i < r → Outside low high (bigEndian 8 (drop (i * 32) (now (list .entry))))) ⌝ }
 {

@@ -1,7 +1,7 @@
 -- What the ranges of a reply add to the needed list.
-use Prim.Native.Nat.{ℕ, zero, suc, _+_, _-_, _*_, _≤_, _<_}
+use Prim.Native.Nat.{ℕ, suc, _+_, _-_, _*_, _≤_, _<_}
 use mathlib.Core.Path.{_≡_, refl, sym, ap, _∙_}
-use mathlib.Core.Bool.{Bool, true, false, not, _&&_, _||_, and-false, or-assoc}
+use mathlib.Core.Bool.{Bool, true, false, not, _&&_, _||_, and-false}
 use mathlib.Core.List.{List, [], _∷_, _++_, foldr, flatten}
 use native.Mathlib.Omega.{arith}
 use lib.ListN.{length, take, drop, length-append, length-drop}
@@ -29,7 +29,7 @@ use Rattle.cutting.proofs.Projection.{keep-length}
 use Rattle.ends.specs.Lists.{some, same}
 use Rattle.ends.specs.Calls.{eachRange}
 use Rattle.ends.specs.Opener.{unowned, insert, neededAfter}
-use Rattle.ends.proofs.Lists.{flatten-length}
+use Rattle.ends.proofs.Lists.{some-append, flatten-length}
 use Rattle.ends.proofs.Tables.{same-true}
 use Rattle.ends.proofs.Reports.{unowned-sized}
 use Rattle.walk.specs.Walking.{starts, Walking, Stepped}
@@ -39,16 +39,6 @@ use Rattle.walk.specs.Adding.{addedFrom, others}
 use Rattle.walk.proofs.Steps.{lower-starts}
 
 -- ---- lists
-
-pub some-append : {A : Type 0} (p : A → Bool) (a b : List A) → some p (a ++ b) ≡ (some p a || some p b)
-unfolding some
-some-append p [] b = refl
-some-append p (x ∷ a) b = rw (some-append p a b) (sym (or-assoc (p x) (some p a) (some p b)))
-
-pub keep-append : {A : Type 0} (p : A → Bool) (k l : List A) → keep p (k ++ l) ≡ keep p k ++ keep p l
-unfolding keep
-keep-append p [] l = refl
-keep-append p (x ∷ k) l = byTest (p x) (λ e. rw (e, keep-append p k l) refl) (λ e. rw e (keep-append p k l))
 
 -- a test of ids goes by their bytes alone
 pub some-keep : (d : List ℕ) (q : List ℕ → Bool) (l : List (List ℕ)) → some (same d) (keep q l) ≡ (some (same d) l && q d)
@@ -172,14 +162,6 @@ unfolding neededAfter addedFrom
 needed-is T m ds = rw lower-starts refl
 
 -- ---- a list of ids
-
-pub ids-parts : (a b : ℕ) (l : List ℕ) → idsIn (a + b) l ≡ idsIn a l ++ idsIn b (drop (a * 32) l)
-unfolding idsIn
-ids-parts zero b l = let e : 0 + b ≡ b = omega arith in rw e refl
-ids-parts (suc a) b l =
-    let d : 32 + a * 32 ≡ suc a * 32 = omega arith in
-    let e : suc a + b ≡ suc (a + b) = omega arith in
-    rw (e, ids-parts a b (drop 32 l), drop-drop (a * 32) 32 l, d) refl
 
 -- the ids of the list at place `at`, from the i-th on
 abbrev pub listFrom : List ℕ → ℕ → ℕ → ℕ → List (List ℕ)

@@ -15,7 +15,7 @@ use Rattle.theory.specs.Cutting.{split}
 use Rattle.table.specs.Answer.{answer}
 use Rattle.table.specs.Answer as Answer
 use Rattle.table.specs.Lists.{keep, every, rising}
-use Rattle.table.specs.Table.{keyOf, items, wrongSize, notRising, within}
+use Rattle.table.specs.Table.{Item, Table, keyOf, items, wrongSize, notRising, within}
 use Rattle.sha256.specs.Fips180.{digest}
 use Rattle.label.specs.Label as L
 use Rattle.label.specs.Label.{littleEndian, total, labelOf, lowBytes, hashed, spellLabel, readLabel}
@@ -26,7 +26,9 @@ use Rattle.ends.specs.Lists.{some, same, overwrite}
 use Rattle.ends.specs.Calls.{Result, eachRange}
 use Rattle.ends.specs.Responder.{compare, treat, reply, otherVersion, answered, answeredWithin}
 use Rattle.ends.specs.Opener.{Lent, wrongBuffers, wrongContents, firstQuery, openingLeaves, begin, opened, openedWithin, nextQuery, written, unlisted, marksAfter, unowned, insert, neededAfter, takeLeaves, conclude, taken, takenWithin}
-use Rattle.examples.specs.Table.{Varint, varints, Refused, refusals, Message, messages, merged, Neighbours, neighbours, Division, divisions, item, Opening, openings, Answering, answers, refusedQueries, one, two, Taking, takes, Labelled, labels, Tree, three, threeLabels, trees, spelled, Depth, depths, Run, emptyRuns, fourth, fourLabels, fourRuns, Limited, numbered, limits, tooSmall}
+use Rattle.fold.specs.Fold as Fold
+use Rattle.fold.specs.Fold.{cannotHold, wrongNeeded, sameItem, notDue, judgeFold, enter, stillNeeded, laid, commitLeaves, inquired, committed}
+use Rattle.examples.specs.Table.{Varint, varints, Refused, refusals, Message, messages, merged, Neighbours, neighbours, Division, divisions, item, Opening, openings, Answering, answers, refusedQueries, one, two, Taking, takes, Labelled, labels, Tree, three, threeLabels, trees, spelled, Depth, depths, Run, emptyRuns, fourth, fourLabels, fourRuns, Limited, numbered, limits, tooSmall, Folding, ownTwo, firstFolding, foldings, ownFour, neededOne, idBytes}
 
 -- an out buffer of just the size that is needed, and marks that are to become 0
 abbrev beforeOpening : Opening → Lent
@@ -76,6 +78,25 @@ lentTree e = replicate (40 * length (e .labels)) 0xEE
 abbrev found : Run → Answer.Answer Found
 found e = answer (record { label = e .label; visited = e .visited })
 
+-- items at the front of buffers that have room for so many
+abbrev tableOf : List Item → ℕ → Table
+tableOf is room = record {
+  times = map (λ (i : Item). i .time) is ++ replicate (room - length is) 0xEE;
+  ids = idBytes is ++ replicate (32 * (room - length is)) 0xEE;
+}
+
+abbrev beforeFold : Folding → Fold.Lent
+beforeFold e = record { table = tableOf ownTwo (e .room); session = record { marked = 1; needed = 3; done = e .done }; needed = e .needed }
+
+abbrev batchOf : Folding → Table
+batchOf e = tableOf (e .batch) (length (e .batch))
+
+abbrev afterFold : Result Fold.Lent
+afterFold = record {
+  answer = answer 4;
+  lent = record { table = tableOf ownFour 4; session = record { marked = 1; needed = 1; done = true }; needed = neededOne };
+}
+
 pub table :
     (map (λ (e : Varint). spellVarint (e .value)) varints ≡ map (λ (e : Varint). e .bytes) varints)
     × (map (λ (e : Varint). readVarint (e .bytes)) varints ≡ map (λ (e : Varint). read (e .value) []) varints)
@@ -102,5 +123,7 @@ pub table :
     × (map (λ (e : Limited). sentMessage (bytes (e .limit)) (e .items) (e .ranges)) limits ≡ map (λ (e : Limited). e .message) limits)
     × (map (λ (e : Limited). length (e .message)) limits ≡ map (λ (e : Limited). e .size) limits)
     × (answeredWithin (bytes tooSmall) one two [] out ≡ record { answer = Answer.refused 14; lent = out })
-unfolding readMessage readRanges readRange readBound readCoded readPrefix readPayload readOfMode readIds readVarint readDigits readBytes key bigEndian idSpace writeMessage tidy prepend isSkip spellMessage spellRanges spellRange spellBound spellPrefix spellPayload spellVarint digitsBefore flatten sizes split shared shortest innerBound fingerprintRanges cut items idsIn zipWith littleEndian total labelOf lowBytes hashed fingerprintOf L.fingerprint digest keep every rising keyOf wrongSize notRising within outsideLimits some same overwrite eachRange compare treat reply otherVersion answeredWithin wrongBuffers wrongContents firstQuery openingLeaves begin openedWithin nextQuery written unlisted marksAfter unowned insert neededAfter takeLeaves conclude takenWithin belowLeast exceeds largest runEnd closed fits longest firstIds mostIds partOf shortened limited sentMessage numbered spellLabel readLabel depthFrom depthOf places sums levels spellLabels treeOver wrongTree labelAt putLabel renew renewAbove build noneFree appended append visit depthIn labelOfRun L.add
-table = (refl, refl, refl, refl, refl, refl, refl, refl, refl, refl, refl, refl, refl, refl, refl, refl, refl, refl, refl, refl, refl, refl, refl, refl, refl)
+    × (map (λ (e : Folding). inquired 2 (beforeFold e) (batchOf e)) foldings ≡ map (λ (e : Folding). e .inquiry) foldings)
+    × (committed 2 (beforeFold firstFolding) (batchOf firstFolding) ≡ afterFold)
+unfolding readMessage readRanges readRange readBound readCoded readPrefix readPayload readOfMode readIds readVarint readDigits readBytes key bigEndian idSpace writeMessage tidy prepend isSkip spellMessage spellRanges spellRange spellBound spellPrefix spellPayload spellVarint digitsBefore flatten sizes split shared shortest innerBound fingerprintRanges cut items idsIn zipWith littleEndian total labelOf lowBytes hashed fingerprintOf L.fingerprint digest keep every rising keyOf wrongSize notRising within outsideLimits some same overwrite eachRange compare treat reply otherVersion answeredWithin wrongBuffers wrongContents firstQuery openingLeaves begin openedWithin nextQuery written unlisted marksAfter unowned insert neededAfter takeLeaves conclude takenWithin belowLeast exceeds largest runEnd closed fits longest firstIds mostIds partOf shortened limited sentMessage numbered spellLabel readLabel depthFrom depthOf places sums levels spellLabels treeOver wrongTree labelAt putLabel renew renewAbove build noneFree appended append visit depthIn labelOfRun L.add cannotHold wrongNeeded sameItem notDue judgeFold enter Fold.merged stillNeeded laid commitLeaves inquired committed
+table = (refl, refl, refl, refl, refl, refl, refl, refl, refl, refl, refl, refl, refl, refl, refl, refl, refl, refl, refl, refl, refl, refl, refl, refl, refl, refl, refl)

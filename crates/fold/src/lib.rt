@@ -1,0 +1,1 @@
+// Batches folded into the opener's table: definitions and theorems alone.

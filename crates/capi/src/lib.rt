@@ -23,6 +23,7 @@ ghost use Rattle.session.specs.Code as opener;
 ghost use Rattle.session.specs.Fingerprint.{fingerprintBetween};
 ghost use Rattle.capi.specs.Calls.{cutBy, lentTo, noSession, told, toldWith, boundBy, numberIn};
 
+pub mod folds;
 pub mod trees;
 pub mod within;
 

@@ -1,0 +1,2 @@
+-- For our own crates: ids taken out of a list.
+pub mod Removing

@@ -1,0 +1,205 @@
+// Ids taken out of a list that rises, as the needed list does. The ids to be taken out stand in any order, so the list is passed in windows: each id that can belong to a
+// window is searched there and marked in a local array. With d ids in the list and m to be taken out: m × log d comparisons, and m × (d / 131,072 + 1) words looked at.
+use crate::marking::mark_all;
+use index::lookup::smaller;
+use marks::count_ones;
+ghost use Prim.Native.Nat.{ℕ, _+_, _*_, _≤_, _<_};
+ghost use mathlib.Core.Path.{_≡_};
+ghost use mathlib.Core.Bool.{true};
+ghost use mathlib.Core.List.{_++_, map, flatten};
+ghost use lib.ListN.{length, take, drop};
+ghost use Rattle.message.specs.Bound.{bigEndian};
+ghost use Rattle.message.specs.Code.{idsIn};
+ghost use Rattle.table.specs.Lists.{rising};
+ghost use Rattle.ends.specs.Lists.{overwrite};
+ghost use Rattle.removal.specs.Removing.{unmarked, without, present};
+
+mod hints;
+mod marking;
+
+// How many of the ids to be taken out are ids of the list, and how many ids the list has without them.
+pub struct Tally {
+    pub found: usize,
+    pub left: usize,
+}
+
+// The tally of the first `count` ids of the list.
+fn survey_window(
+    list: &[u8],
+    count: usize,
+    ids: &[u8],
+    m: usize,
+    ends: &mut [u32],
+    marks: &mut [u8],
+) -> Tally
+    requires { ⌜ (0 < count) × (count * 32 ≤ length (now list)) × (m * 32 ≤ length (now ids)) × (count ≤ length (now marks)) × (rising (map (bigEndian 32) (idsIn count (now list))) ≡ true) ⌝ }
+    ensures { λ r. ⌜ (r .found ≡ length (present (idsIn m (now (ids .entry))) (idsIn count (now (list .entry))))) × (r .left ≡ length (without (idsIn m (now (ids .entry))) (idsIn count (now (list .entry))))) × (r .left ≤ count) ⌝ }
+{
+    let found = mark_all(list, count, ids, m, ends, marks);
+    let left = count - count_ones(&marks[..count]);
+    Tally { found, left }
+}
+
+// As `survey`, with room for hints and marks.
+fn survey_with(
+    list: &[u8],
+    size: usize,
+    ids: &[u8],
+    m: usize,
+    ends: &mut [u32],
+    marks: &mut [u8],
+) -> Tally
+    requires { ⌜ (size * 32 ≤ length (now list)) × (m * 32 ≤ length (now ids)) × (rising (map (bigEndian 32) (idsIn size (now list))) ≡ true) × (0 < length (now marks)) ⌝ }
+    ensures { λ r. ⌜ (r .found ≡ length (present (idsIn m (now (ids .entry))) (idsIn size (now (list .entry))))) × (r .left ≡ length (without (idsIn m (now (ids .entry))) (idsIn size (now (list .entry))))) ⌝ }
+{
+    let mut found = 0;
+    let mut left = 0;
+    let mut lo = 0;
+    while lo < size {
+        let count = smaller(size - lo, marks.len());
+        let start = lo * 32;
+        let window = survey_window(&list[start..], count, ids, m, ends, marks);
+        found += window.found;
+        left += window.left;
+        lo += count;
+    }
+    Tally { found, left }
+}
+
+// The 32 bytes at place `from`, copied to place `to`: that place, or one before all of them.
+fn copy_id(list: &mut [u8], from: usize, to: usize)
+    requires { ⌜ (to ≤ from) × (to < from → to + 32 ≤ from) × (from + 32 ≤ length (now list)) ⌝ }
+    ensures { λ _. ⌜ now (list .exit) ≡ take to (now (list .entry)) ++ (take 32 (drop from (now (list .entry))) ++ drop (to + 32) (now (list .entry))) ⌝ }
+{
+    let mut i = 0;
+    while i < 32 {
+        list[to + i] = list[from + i];
+        i += 1;
+    }
+}
+
+// Of the `count` ids from place `lo` on, those whose mark is 0 move to place `kept` and on; how many ids there are then up to them.
+fn keep_unmarked(list: &mut [u8], kept: usize, lo: usize, count: usize, marks: &[u8]) -> usize
+    requires { ⌜ (kept ≤ lo) × ((lo + count) * 32 ≤ length (now list)) × (count ≤ length (now marks)) ⌝ }
+    ensures { λ r. ⌜ r ≡ kept + length (unmarked (take count (now (marks .entry))) (idsIn count (drop (lo * 32) (now (list .entry))))) ⌝ }
+    ensures { λ _. ⌜ now (list .exit) ≡ take (kept * 32) (now (list .entry)) ++ overwrite (flatten (unmarked (take count (now (marks .entry))) (idsIn count (drop (lo * 32) (now (list .entry)))))) (drop (kept * 32) (now (list .entry))) ⌝ }
+{
+    let mut kept = kept;
+    let mut k = 0;
+    while k < count {
+        if marks[k] == 0 {
+            copy_id(list, (lo + k) * 32, kept * 32);
+            kept += 1;
+        }
+        k += 1;
+    }
+    kept
+}
+
+// Of the `count` ids from place `lo` on, those that are none of the m ids that begin a slice move to place `kept` and on; how many ids there are then up to them.
+fn keep_in_window(
+    list: &mut [u8],
+    kept: usize,
+    lo: usize,
+    count: usize,
+    ids: &[u8],
+    m: usize,
+    ends: &mut [u32],
+    marks: &mut [u8],
+) -> usize
+    requires { ⌜ (kept ≤ lo) × ((lo + count) * 32 ≤ length (now list)) × (m * 32 ≤ length (now ids)) × (count ≤ length (now marks)) × (rising (map (bigEndian 32) (idsIn count (drop (lo * 32) (now list)))) ≡ true) × (0 < count) ⌝ }
+    ensures { λ r. ⌜ r ≡ kept + length (without (idsIn m (now (ids .entry))) (idsIn count (drop (lo * 32) (now (list .entry))))) ⌝ }
+    ensures { λ _. ⌜ now (list .exit) ≡ take (kept * 32) (now (list .entry)) ++ overwrite (flatten (without (idsIn m (now (ids .entry))) (idsIn count (drop (lo * 32) (now (list .entry)))))) (drop (kept * 32) (now (list .entry))) ⌝ }
+{
+    let start = lo * 32;
+    mark_all(&list[start..], count, ids, m, ends, marks);
+    keep_unmarked(list, kept, lo, count, marks)
+}
+
+// As `take_out`, with room for hints and marks.
+fn take_out_with(
+    list: &mut [u8],
+    size: usize,
+    ids: &[u8],
+    m: usize,
+    ends: &mut [u32],
+    marks: &mut [u8],
+) -> usize
+    requires { ⌜ (size * 32 ≤ length (now list)) × (m * 32 ≤ length (now ids)) × (rising (map (bigEndian 32) (idsIn size (now list))) ≡ true) × (0 < length (now marks)) ⌝ }
+    ensures { λ r. ⌜ r ≡ length (without (idsIn m (now (ids .entry))) (idsIn size (now (list .entry)))) ⌝ }
+    ensures { λ _. ⌜ now (list .exit) ≡ overwrite (flatten (without (idsIn m (now (ids .entry))) (idsIn size (now (list .entry))))) (now (list .entry)) ⌝ }
+{
+    let mut kept = 0;
+    let mut lo = 0;
+    while lo < size {
+        let count = smaller(size - lo, marks.len());
+        kept = keep_in_window(list, kept, lo, count, ids, m, ends, marks);
+        lo += count;
+    }
+    kept
+}
+
+// As `survey`, for a short list.
+fn survey_few(list: &[u8], size: usize, ids: &[u8], m: usize) -> Tally
+    requires { ⌜ (size * 32 ≤ length (now list)) × (m * 32 ≤ length (now ids)) × (rising (map (bigEndian 32) (idsIn size (now list))) ≡ true) ⌝ }
+    ensures { λ r. ⌜ (r .found ≡ length (present (idsIn m (now (ids .entry))) (idsIn size (now (list .entry))))) × (r .left ≡ length (without (idsIn m (now (ids .entry))) (idsIn size (now (list .entry))))) ⌝ }
+{
+    let mut ends = [0u32; 128];
+    let mut marks = [0u8; 1024];
+    survey_with(list, size, ids, m, &mut ends, &mut marks)
+}
+
+// As `survey`, for a list that may be long.
+fn survey_many(list: &[u8], size: usize, ids: &[u8], m: usize) -> Tally
+    requires { ⌜ (size * 32 ≤ length (now list)) × (m * 32 ≤ length (now ids)) × (rising (map (bigEndian 32) (idsIn size (now list))) ≡ true) ⌝ }
+    ensures { λ r. ⌜ (r .found ≡ length (present (idsIn m (now (ids .entry))) (idsIn size (now (list .entry))))) × (r .left ≡ length (without (idsIn m (now (ids .entry))) (idsIn size (now (list .entry))))) ⌝ }
+{
+    let mut ends = [0u32; 16384];
+    let mut marks = [0u8; 131072];
+    survey_with(list, size, ids, m, &mut ends, &mut marks)
+}
+
+// How many of the m ids that begin a slice are ids of the list of `size` ids, and how many ids it has without them.
+pub fn survey(list: &[u8], size: usize, ids: &[u8], m: usize) -> Tally
+    requires { ⌜ (size * 32 ≤ length (now list)) × (m * 32 ≤ length (now ids)) × (rising (map (bigEndian 32) (idsIn size (now list))) ≡ true) ⌝ }
+    ensures { λ r. ⌜ (r .found ≡ length (present (idsIn m (now (ids .entry))) (idsIn size (now (list .entry))))) × (r .left ≡ length (without (idsIn m (now (ids .entry))) (idsIn size (now (list .entry))))) ⌝ }
+{
+    if size <= 1024 {
+        return survey_few(list, size, ids, m);
+    }
+    survey_many(list, size, ids, m)
+}
+
+// As `take_out`, for a short list.
+fn take_out_few(list: &mut [u8], size: usize, ids: &[u8], m: usize) -> usize
+    requires { ⌜ (size * 32 ≤ length (now list)) × (m * 32 ≤ length (now ids)) × (rising (map (bigEndian 32) (idsIn size (now list))) ≡ true) ⌝ }
+    ensures { λ r. ⌜ r ≡ length (without (idsIn m (now (ids .entry))) (idsIn size (now (list .entry)))) ⌝ }
+    ensures { λ _. ⌜ now (list .exit) ≡ overwrite (flatten (without (idsIn m (now (ids .entry))) (idsIn size (now (list .entry))))) (now (list .entry)) ⌝ }
+{
+    let mut ends = [0u32; 128];
+    let mut marks = [0u8; 1024];
+    take_out_with(list, size, ids, m, &mut ends, &mut marks)
+}
+
+// As `take_out`, for a list that may be long.
+fn take_out_many(list: &mut [u8], size: usize, ids: &[u8], m: usize) -> usize
+    requires { ⌜ (size * 32 ≤ length (now list)) × (m * 32 ≤ length (now ids)) × (rising (map (bigEndian 32) (idsIn size (now list))) ≡ true) ⌝ }
+    ensures { λ r. ⌜ r ≡ length (without (idsIn m (now (ids .entry))) (idsIn size (now (list .entry)))) ⌝ }
+    ensures { λ _. ⌜ now (list .exit) ≡ overwrite (flatten (without (idsIn m (now (ids .entry))) (idsIn size (now (list .entry))))) (now (list .entry)) ⌝ }
+{
+    let mut ends = [0u32; 16384];
+    let mut marks = [0u8; 131072];
+    take_out_with(list, size, ids, m, &mut ends, &mut marks)
+}
+
+// The m ids that begin a slice are taken out of the list of `size` ids; how many are left. The bytes behind them stay as they were.
+pub fn take_out(list: &mut [u8], size: usize, ids: &[u8], m: usize) -> usize
+    requires { ⌜ (size * 32 ≤ length (now list)) × (m * 32 ≤ length (now ids)) × (rising (map (bigEndian 32) (idsIn size (now list))) ≡ true) ⌝ }
+    ensures { λ r. ⌜ r ≡ length (without (idsIn m (now (ids .entry))) (idsIn size (now (list .entry)))) ⌝ }
+    ensures { λ _. ⌜ now (list .exit) ≡ overwrite (flatten (without (idsIn m (now (ids .entry))) (idsIn size (now (list .entry))))) (now (list .entry)) ⌝ }
+{
+    if size <= 1024 {
+        return take_out_few(list, size, ids, m);
+    }
+    take_out_many(list, size, ids, m)
+}

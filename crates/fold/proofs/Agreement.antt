@@ -91,7 +91,7 @@ module _ (s : State) (c : Commit) (m : ℕ) (own : Bytes (lentAt s c .table .ids
       })
 
 pub commit-passes : CommitPasses
-commit-passes s c m own list batch e = record {
+commit-passes s c m own batch e = record {
   held = λ c′. held-behind (next s c .table) (table-passes s c m own batch e .0) (c′ .behindTable .times) (c′ .behindTable .ids);
   rises = λ c′. rw (front-behind (next s c .table) (table-passes s c m own batch e .0) (c′ .behindTable .times) (c′ .behindTable .ids))
       (table-passes s c m own batch e .1);

@@ -31,5 +31,5 @@ pub record Passes (s : State) : Type 0 where
 
 abbrev pub CommitPasses : Type 0
 CommitPasses =
-    (s : State) (c : Commit) (m : ℕ) → Bytes (lentAt s c .table .ids) → Bytes (lentAt s c .needed) → Bytes (c .batch .ids) → call s c .answer ≡ answer m
+    (s : State) (c : Commit) (m : ℕ) → Bytes (lentAt s c .table .ids) → Bytes (c .batch .ids) → call s c .answer ≡ answer m
     → Passes (next s c)

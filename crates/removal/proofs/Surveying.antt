@@ -4,11 +4,10 @@ use mathlib.Core.Path.{_≡_, refl, sym, ap, _∙_}
 use mathlib.Core.Bool.{true, false}
 use mathlib.Core.List.{List, [], _∷_, _++_}
 use native.Mathlib.Omega.{arith}
-use lib.ListN.{length, take, drop}
+use lib.ListN.{length, drop}
 use Rattle.message.specs.Bound.{bigEndian}
 use Rattle.message.specs.Code.{idsIn}
 use Rattle.message.proofs.Exact.{byTest}
-use Rattle.message.proofs.Forms.{ids-count}
 use Rattle.theory.proofs.Tests.{clash}
 use Rattle.table.specs.Lists.{keep, rising}
 use Rattle.table.proofs.Ids.{ids-take}
@@ -22,7 +21,7 @@ use Rattle.ends.proofs.Reports.{numbers}
 use Rattle.ends.proofs.Inserting.{front-rises}
 use Rattle.sortedids.proofs.Places.{absent-id}
 use Rattle.removal.specs.Removing.{without, present}
-use Rattle.removal.proofs.Removing.{none-left, left-few, count-next}
+use Rattle.removal.proofs.Removing.{none-left, count-next}
 
 -- no id is in two parts of a list that rises
 apart : (lo : ℕ) (u : List ℕ) (k l : List (List ℕ)) → Ascending lo (numbers (k ++ l)) → some (same u) k ≡ true → some (same u) l ≡ true → ⊥

@@ -1,6 +1,6 @@
 -- `folding::commit` meets its contract.
 use Prim.Native.Nat.{ℕ, _+_}
-use mathlib.Core.Path.{_≡_, refl, sym, ap, _∙_}
+use mathlib.Core.Path.{_≡_}
 use native.Mathlib.Omega.{arith}
 use lib.ListN.{length}
 use borrow.Author.Needs.{needs}
@@ -10,7 +10,7 @@ use Rattle.table.proofs.Items.{right-size}
 use Rattle.fold.specs.Fold.{Lent}
 use Rattle.fold.proofs.Laying.{holds, needed-fits}
 use Rattle.fold.proofs.Commits.{Due, own-passes}
-use Rattle.folding.specs.Code.{inquiryOf, lentTo}
+use Rattle.folding.specs.Code.{lentTo}
 use Rattle.folding.proofs.Committing.{inquiry-due, refused-inquiry, commit-is}
 use Rattle.folding.proofs.commit.Statement.{statement}
 use Rattle.folding.proofs.commit.Tie as tie

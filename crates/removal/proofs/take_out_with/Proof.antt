@@ -1,5 +1,5 @@
 -- `removal::take_out_with` meets its contract. The invariant: the first lo ids are passed, `TakingOut`.
-use Prim.Native.Nat.{ℕ, _-_, _*_, _≤_}
+use Prim.Native.Nat.{_-_, _*_, _≤_}
 use mathlib.Core.Path.{_≡_, refl, _∙_}
 use native.Mathlib.Omega.{arith}
 use lib.ListN.{length}

@@ -1,10 +1,54 @@
-//! The faults that a call can be handed: each spoils a lawful input so that one check refuses it.
+//! The faults that a call can be handed: each spoils a lawful input so that one check refuses it. And the walk over two
+//! faults at once, which is the same for those of trees and of folding in.
 use crate::calls::Call;
+use crate::compare::Check;
 use crate::generate::{from_text, OwnedTable};
 use crate::input::Input;
+use crate::kinds::expect_number;
 use recon::{Cut, Session, MAX_ITEMS};
 use std::mem::swap;
 use std::rc::Rc;
+
+/// A fault of any call.
+pub trait AnyFault {
+    type Draft: Clone;
+
+    /// The number of the refusal.
+    fn number(&self) -> u8;
+
+    /// What a failure calls it.
+    fn name(&self) -> String;
+
+    fn spoil(&self, draft: &mut Self::Draft);
+
+    /// The number that this fault and then another give, as far as it can be said.
+    fn with(&self, other: &Self) -> Option<u8>;
+}
+
+/// Makes the call of a lawful draft with the first fault, alone and then with each other one. It tells its number,
+/// which has to be that of the faults, as far as it can be said.
+pub fn with_first<F: AnyFault>(
+    lawful: &F::Draft,
+    faults: &[F],
+    first: usize,
+    mut call: impl FnMut(&F::Draft) -> Check<u8>,
+) -> Check {
+    let one = &faults[first];
+    for (second, other) in faults.iter().enumerate() {
+        let mut draft = lawful.clone();
+        one.spoil(&mut draft);
+        let expected = if first == second {
+            Some(one.number())
+        } else {
+            other.spoil(&mut draft);
+            one.with(other)
+        };
+        call(&draft)
+            .and_then(|told| expected.map_or(Ok(()), |expected| expect_number(told, expected)))
+            .map_err(|text| format!("{}; {}: {}", one.name(), other.name(), text))?;
+    }
+    Ok(())
+}
 
 /// An input that owns what it is made of, to be spoiled.
 #[derive(Clone)]
@@ -79,17 +123,48 @@ impl Fault {
     }
 
     /// Its place among the checks: 14 comes right after 3.
-    pub fn place(&self) -> (u8, bool) {
+    fn place(&self) -> (u8, bool) {
         match self.number {
             14 => (3, true),
             number => (number, false),
         }
     }
 
-    pub fn spoil(&self, draft: &mut Draft) {
+    fn goes_by_reading(&self) -> bool {
+        matches!(self.number, 7..=10)
+    }
+}
+
+impl AnyFault for Fault {
+    type Draft = Draft;
+
+    fn number(&self) -> u8 {
+        self.number
+    }
+
+    fn name(&self) -> String {
+        self.name.to_string()
+    }
+
+    fn spoil(&self, draft: &mut Draft) {
         match self.spoil {
             Spoil::Edit(edit) => edit(draft),
             Spoil::Append(text) => draft.message.extend(from_text(text)),
+        }
+    }
+
+    /// Said without reading: two faults of the same number may undo each other, and bytes behind a message that ends
+    /// too early may complete it.
+    fn with(&self, other: &Fault) -> Option<u8> {
+        if self.goes_by_reading() && other.goes_by_reading() {
+            // The first fault met counts.
+            Some(self.number).filter(|&number| number != 7)
+        } else if self.number == other.number {
+            None
+        } else if self.place() < other.place() {
+            Some(self.number)
+        } else {
+            Some(other.number)
         }
     }
 }

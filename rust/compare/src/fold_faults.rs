@@ -1,6 +1,6 @@
 //! The faults that an inquiry or a commit can be handed: each spoils a lawful input so that one check refuses it.
 use crate::calls::{Call, FoldCall};
-use crate::faults::{faults_of, Draft, Fault};
+use crate::faults::{faults_of, AnyFault, Draft, Fault};
 use crate::fold::{items_of, FoldInput};
 use crate::generate::{id_from, Id, Item, OwnedTable};
 use crate::input::Input;
@@ -138,19 +138,25 @@ enum Spoil {
 
 #[derive(Clone, Copy)]
 pub struct FoldFault {
-    pub number: u8,
+    number: u8,
     name: &'static str,
     part: Part,
     spoil: Spoil,
 }
 
-impl FoldFault {
+impl AnyFault for FoldFault {
+    type Draft = FoldDraft;
+
+    fn number(&self) -> u8 {
+        self.number
+    }
+
     /// What it is in, and what is wrong there.
-    pub fn name(&self) -> String {
+    fn name(&self) -> String {
         format!("{:?}, {}", self.part, self.name)
     }
 
-    pub fn spoil(&self, draft: &mut FoldDraft) {
+    fn spoil(&self, draft: &mut FoldDraft) {
         match &self.spoil {
             Spoil::Items(fault) => draft.spoil_items(fault),
             Spoil::Batch(fault) if draft.is_small() => fault.spoil(&mut draft.batch),
@@ -159,9 +165,8 @@ impl FoldFault {
         }
     }
 
-    /// The number that this fault and another give, as far as it can be said. They are checked in the order of their
-    /// numbers.
-    pub fn with(&self, other: &FoldFault) -> Option<u8> {
+    /// They are checked in the order of their numbers.
+    fn with(&self, other: &FoldFault) -> Option<u8> {
         if self.number == other.number && self.part == other.part {
             return None;
         }

@@ -2,6 +2,7 @@
 //! checked on sets, without either implementation.
 use crate::compare::Check;
 use crate::exchange::{Ends, Exchange};
+use crate::faults::AnyFault;
 use crate::fold::items_of;
 use crate::fold_faults::{fold_faults, FoldDraft};
 use crate::generate::{two_cuts, whole_ids, Id, Item, OwnedTable, Relation, TwoTables, RELATIONS, SHAPES};

@@ -1,6 +1,6 @@
 //! The faults that a build or an append can be handed: each spoils a lawful input so that one check refuses it.
 use crate::calls::{Call, GivenItem, TreeCall};
-use crate::faults::{faults_of, Draft, Fault};
+use crate::faults::{faults_of, AnyFault, Draft, Fault};
 use crate::generate::{id_from, OwnedTable};
 use crate::input::Input;
 use crate::tree::{places_over, TreeInput};
@@ -79,22 +79,32 @@ enum Spoil {
 
 #[derive(Clone, Copy)]
 pub struct TreeFault {
-    pub number: u8,
-    pub name: &'static str,
+    number: u8,
+    name: &'static str,
     part: Part,
     spoil: Spoil,
 }
 
-impl TreeFault {
-    pub fn spoil(&self, draft: &mut TreeDraft) {
+impl AnyFault for TreeFault {
+    type Draft = TreeDraft;
+
+    fn number(&self) -> u8 {
+        self.number
+    }
+
+    fn name(&self) -> String {
+        self.name.to_string()
+    }
+
+    fn spoil(&self, draft: &mut TreeDraft) {
         match self.spoil {
             Spoil::Table(fault) => fault.spoil(&mut draft.draft),
             Spoil::Edit(edit) => edit(draft),
         }
     }
 
-    /// The number that this fault and another give, as far as it can be said: 1 comes before 2, and 2 before 13.
-    pub fn with(&self, other: &TreeFault) -> Option<u8> {
+    /// 1 comes before 2, and 2 before 13.
+    fn with(&self, other: &TreeFault) -> Option<u8> {
         if self.number == other.number && self.part == other.part {
             return None;
         }

@@ -2,7 +2,7 @@
 use super::{expect_number, Case};
 use crate::calls::{Call, GivenBound};
 use crate::compare::{same_bytes, Check};
-use crate::faults::{faults_of, Draft};
+use crate::faults::{faults_of, AnyFault, Draft};
 use crate::generate::{from_text, items, Item, OwnedTable, LAST_TIME, SHAPES};
 use crate::input::Input;
 use crate::rng::Rng;

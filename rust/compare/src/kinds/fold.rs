@@ -1,9 +1,10 @@
 //! Folding in: each fault of an inquiry and a commit, and each two of them at once; room of every size; batches that go
 //! in front of a table, between its items and behind them, ids under two times, and inputs that are changed at random;
 //! whole sessions whose needed items come in several commits. An inquiry and a commit of the same input have to agree.
-use super::{expect_number, Case, Group};
+use super::{Case, Group};
 use crate::compare::Check;
-use crate::fold_faults::{fold_faults, FoldDraft, FoldFault};
+use crate::faults::with_first;
+use crate::fold_faults::{fold_faults, FoldDraft};
 use crate::generate::{items, Id, Item, OwnedTable, Shape, LAST_TIME, SHAPES};
 use crate::rng::Rng;
 use crate::story;
@@ -95,27 +96,7 @@ fn faults(case: &mut Case<'_, '_>, number: usize) -> Check {
     let room = case.rng.pick(&[(0, 0), (0, 0), (1, 32), (3, 5)]);
     let lawful = small_draft(&mut case.rng, count, batch_count, room);
     case.expect_fold(&lawful.input(), 0)?;
-    for (second, fault) in faults.iter().enumerate() {
-        let mut draft = lawful.clone();
-        faults[first].spoil(&mut draft);
-        let expected = if first == second {
-            Some(fault.number)
-        } else {
-            fault.spoil(&mut draft);
-            faults[first].with(fault)
-        };
-        with_faults(case, &draft, expected).map_err(|text| told(&faults[first], fault, &text))?;
-    }
-    Ok(())
-}
-
-fn told(first: &FoldFault, second: &FoldFault, text: &str) -> String {
-    format!("{}; {}: {}", first.name(), second.name(), text)
-}
-
-fn with_faults(case: &mut Case<'_, '_>, draft: &FoldDraft, expected: Option<u8>) -> Check {
-    let told = case.fold(&draft.input())?.number();
-    expected.map_or(Ok(()), |expected| expect_number(told, expected))
+    with_first(&lawful, &faults, first, |draft| Ok(case.fold(&draft.input())?.number()))
 }
 
 /// Up to four items and a batch of up to four, with every number of times and with id bytes around each whole id: 1

@@ -1,9 +1,9 @@
 //! Each fault of each call, and each two faults of a call at once, in both orders.
-use super::{expect_number, Case};
+use super::Case;
 use crate::calls::Call;
 use crate::compare::Check;
 use crate::exchange::End;
-use crate::faults::{faults_of, Draft, Fault};
+use crate::faults::{faults_of, with_first, Draft};
 use crate::generate::{first_16, id_from, lawful_limit, OwnedTable};
 use crate::input::NEW_SESSION;
 use crate::rng::Rng;
@@ -21,56 +21,21 @@ pub fn cases(long: bool) -> u64 {
     inputs * first_faults() as u64
 }
 
+/// A lawful input, and that input with a first fault and then each other.
 pub fn run(case: &mut Case<'_, '_>) -> Check {
     let mut index = case.index as usize % first_faults();
     for call in Call::ALL {
         let faults = faults_of(call);
         if index < faults.len() {
-            return with_first(case, call, &faults, index);
+            let lawful = lawful(case, call)?;
+            case.expect(&lawful.input(), 0)?;
+            return with_first(&lawful, &faults, index, |draft| {
+                Ok(case.comparer.call(&draft.input())?.number())
+            });
         }
         index -= faults.len();
     }
     Err("there is no such case".to_string())
-}
-
-/// A lawful input, and that input with the first fault and then each other.
-fn with_first(case: &mut Case<'_, '_>, call: Call, faults: &[Fault], first: usize) -> Check {
-    let lawful = lawful(case, call)?;
-    case.expect(&lawful.input(), 0)?;
-    for (second, fault) in faults.iter().enumerate() {
-        let mut draft = lawful.clone();
-        faults[first].spoil(&mut draft);
-        if first != second {
-            fault.spoil(&mut draft);
-        }
-        let expected = expected(&faults[first], fault, first == second);
-        with_faults(case, &draft, expected)
-            .map_err(|text| format!("{}; {}: {}", faults[first].name, fault.name, text))?;
-    }
-    Ok(())
-}
-
-fn with_faults(case: &mut Case<'_, '_>, draft: &Draft, expected: Option<u8>) -> Check {
-    let told = case.comparer.call(&draft.input())?.number();
-    expected.map_or(Ok(()), |expected| expect_number(told, expected))
-}
-
-/// The number that two faults give, as far as it can be said without reading. Two faults of the same number may undo
-/// each other, and bytes behind a message that ends too early may complete it.
-fn expected(first: &Fault, second: &Fault, is_same: bool) -> Option<u8> {
-    let by_reading = |fault: &Fault| matches!(fault.number, 7..=10);
-    if is_same {
-        Some(first.number)
-    } else if by_reading(first) && by_reading(second) {
-        // The first fault met counts.
-        Some(first.number).filter(|&number| number != 7)
-    } else if first.number == second.number {
-        None
-    } else if first.place() < second.place() {
-        Some(first.number)
-    } else {
-        Some(second.number)
-    }
 }
 
 /// A lawful input with exact room that every check looks at: items, marks of both kinds, a list with ids to come.

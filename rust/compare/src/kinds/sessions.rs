@@ -3,7 +3,7 @@ use super::Case;
 use crate::calls::Call;
 use crate::compare::Check;
 use crate::exchange::{Ends, Exchange};
-use crate::faults::{faults_of, Draft};
+use crate::faults::{faults_of, AnyFault, Draft};
 use crate::generate::{two_cuts, Relation, TwoTables, RELATIONS, SHAPES};
 
 pub fn cases(_long: bool) -> u64 {

@@ -3,9 +3,10 @@
 use super::{expect_number, Case, Group};
 use crate::calls::{GivenItem, TreeCall};
 use crate::compare::{same_bytes, Check};
+use crate::faults::with_first;
 use crate::generate::{id_from, items, whole_ids, Id, Item, OwnedTable, LAST_TIME, SHAPES};
 use crate::tree::{appended, bytes_of, places_of, places_over, Sum, TreeInput};
-use crate::tree_faults::{tree_faults_of, TreeDraft, TreeFault};
+use crate::tree_faults::{tree_faults_of, TreeDraft};
 use recon::{Label, Table, LABEL_BYTES};
 
 const GROUPS: [Group; 6] = [
@@ -322,40 +323,21 @@ fn first_faults() -> usize {
     WITH_FAULTS.iter().map(|&call| tree_faults_of(call).len()).sum()
 }
 
+/// A lawful input, and that input with a first fault and then each other.
 fn faults(case: &mut Case<'_, '_>, number: usize) -> Check {
     let mut index = number % first_faults();
     for call in WITH_FAULTS {
         let faults = tree_faults_of(call);
         if index < faults.len() {
-            return with_first(case, call, &faults, index);
+            let lawful = lawful(case, call);
+            case.expect_tree(&lawful.input(), 0)?;
+            return with_first(&lawful, &faults, index, |draft| {
+                Ok(case.comparer.tree(&draft.input())?.number())
+            });
         }
         index -= faults.len();
     }
     Err("there is no such case".to_string())
-}
-
-/// A lawful input, and that input with the first fault and then each other.
-fn with_first(case: &mut Case<'_, '_>, call: TreeCall, faults: &[TreeFault], first: usize) -> Check {
-    let lawful = lawful(case, call);
-    case.expect_tree(&lawful.input(), 0)?;
-    for (second, fault) in faults.iter().enumerate() {
-        let mut draft = lawful.clone();
-        faults[first].spoil(&mut draft);
-        let expected = if first == second {
-            Some(fault.number)
-        } else {
-            fault.spoil(&mut draft);
-            faults[first].with(fault)
-        };
-        with_faults(case, &draft, expected)
-            .map_err(|text| format!("{}; {}: {}", faults[first].name, fault.name, text))?;
-    }
-    Ok(())
-}
-
-fn with_faults(case: &mut Case<'_, '_>, draft: &TreeDraft, expected: Option<u8>) -> Check {
-    let told = case.comparer.tree(&draft.input())?.number();
-    expected.map_or(Ok(()), |expected| expect_number(told, expected))
 }
 
 /// Items of rising times and rising ids, fewer than places, and an item above them, by its time or by its id alone.

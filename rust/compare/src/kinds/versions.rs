@@ -4,7 +4,7 @@ use super::Case;
 use crate::calls::Call;
 use crate::compare::{same_bytes, Check};
 use crate::exchange::End;
-use crate::faults::{faults_of, Draft, Fault};
+use crate::faults::{faults_of, AnyFault, Draft, Fault};
 use crate::generate::{from_text, id_from, lawful_limit, OwnedTable};
 use crate::input::NEW_SESSION;
 use recon::Cut;

@@ -117,6 +117,11 @@ fn wrong_lists() -> Vec<Trial> {
                 flip(made.lent.needed, 32 * 131_072);
             }
         })),
+        trial("needed", words, "a commit changes the needed id number 1,048,577", Damage::Committed(|made, _| {
+            if made.lent.session.needed > 1_048_576 {
+                flip(made.lent.needed, 32 * 1_048_576);
+            }
+        })),
     ]
 }
 

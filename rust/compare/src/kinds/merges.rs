@@ -30,7 +30,7 @@ fn first(table: &OwnedTable, count: usize) -> Table<'_> {
 }
 
 /// A session that is done and needs so many ids.
-fn done(needed: usize) -> Session {
+pub fn done(needed: usize) -> Session {
     Session {
         marked: 0,
         needed,

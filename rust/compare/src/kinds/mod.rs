@@ -7,6 +7,7 @@ mod fold;
 mod limits;
 mod lists;
 mod merges;
+mod needed;
 mod refusals;
 mod room;
 mod sessions;
@@ -140,7 +141,7 @@ macro_rules! kind {
     };
 }
 
-pub static KINDS: [Kind; 15] = [
+pub static KINDS: [Kind; 16] = [
     kind!(examples),
     kind!(refusals),
     kind!(versions),
@@ -156,6 +157,7 @@ pub static KINDS: [Kind; 15] = [
     kind!(trees),
     kind!(fold),
     kind!(merges),
+    kind!(needed),
 ];
 
 pub fn kind_named(name: &str) -> Option<&'static Kind> {

@@ -1,5 +1,5 @@
 //! The faults that a call can be handed: each spoils a lawful input so that one check refuses it. And the walk over two
-//! faults at once, which is the same for those of trees and of folding in.
+//! faults at once, which is the same for all calls.
 use crate::calls::Call;
 use crate::compare::Check;
 use crate::generate::{from_text, OwnedTable};

@@ -1,13 +1,13 @@
 -- "then time code judged, length read and judged, prefix read, bound compared, mode, payload. The first fault met counts": a bound that is
 -- not above its lower bound is refused with 9 before the mode is read, whatever bytes follow it.
-use Prim.Native.Nat.{ℕ, suc, _+_, _-_, _^_, _<_, _≤_}
-use mathlib.Core.Path.{_≡_, refl}
+use Prim.Native.Nat.{ℕ, suc, _+_, _-_, _^_, _≤_}
+use mathlib.Core.Path.{_≡_}
 use mathlib.Core.List.{List, [], _++_, append-assoc}
 use native.Mathlib.Omega.{arith}
 use lib.ListN.{length}
 use borrow.Author.Tests.{le-ltb, le-leb}
 use Rattle.message.specs.Reader.{refused}
-use Rattle.message.specs.Bound.{Bound, infinity, finite, time, key, readPrefix, readCoded, readBound, spellPrefix, spellBound}
+use Rattle.message.specs.Bound.{Bound, infinity, finite, time, key, readCoded, readBound, spellPrefix, spellBound}
 use Rattle.message.specs.Message.{readRange}
 use Rattle.message.specs.WellFormed.{LawfulBound}
 use Rattle.message.proofs.Varints.{exact-varint}

@@ -4,8 +4,8 @@ use mathlib.Core.List.{List, [], _∷_, _++_, append-assoc}
 use Prim.Native.Nat.{ℕ, zero, suc, _+_, _-_, _*_, _/_, _%_, _^_, _≤_, _<_}
 use native.Mathlib.Numerals.{add-one, towards-suc}
 use native.Mathlib.Omega.{arith}
-use lib.ListN.{length, getD, take, drop, set, replicate, length-append, length-take, length-drop, length-replicate, replicate-append-replicate}
-use lib.Seq.{length-take-le, take-suc, append-snoc, set-at, take-all, take-at, drop-at, take-append-le, drop-append-le, take-take, drop-drop, sets, sets-eq}
+use lib.ListN.{length, getD, take, drop, set, replicate, length-append, length-drop, length-replicate, replicate-append-replicate}
+use lib.Seq.{length-take-le, take-suc, append-snoc, set-at, take-all, take-at, drop-at, take-append-le, drop-append-le, take-take, drop-drop, sets-eq}
 use Rattle.sha256.specs.Fips180.{Value, compress, block, blocks, bytes4, bytes8, zeros, padding, pad}
 use Rattle.sha256.specs.Private.{rest, withWord}
 

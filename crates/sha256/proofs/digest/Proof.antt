@@ -1,6 +1,5 @@
 -- `sha256::digest` meets its contract: behind the whole blocks of m its padded form has one block more, or two. Assumes nothing.
 use mathlib.Core.Path.{_≡_, ap, _∙_}
-use native.Mathlib.Omega.{arith}
 use lib.ListN.{length}
 use borrow.Author.Needs.{needs}
 use denote.Ref.{now}

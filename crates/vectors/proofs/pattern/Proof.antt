@@ -1,8 +1,6 @@
 -- `vectors::pattern` is safe and ends. Assumes nothing.
-use mathlib.Core.Path.{_≡_, refl}
 use Prim.Native.Nat.{_-_, _≤_}
 use native.Mathlib.Omega.{arith}
-use lib.ListN.{length, length-set}
 use Rattle.vectors.proofs.pattern.Statement.{statement}
 use Rattle.vectors.proofs.pattern.Tie as tie
 

@@ -1,11 +1,10 @@
 -- `label::Label::read` meets its contract.
-use mathlib.Core.Path.{_≡_, refl, sym, ap, _∙_}
-use mathlib.Core.Bool.{Bool, cond}
+use mathlib.Core.Path.{refl}
 use native.Mathlib.Omega.{arith}
 use lib.ListN.{length}
 use borrow.Author.Needs.{needs}
 use borrow.Author.Tests.{lt-ltb, le-ltb}
-use Rattle.label.specs.Label.{Label, empty, readLabel}
+use Rattle.label.specs.Label.{Label}
 use Rattle.label.specs.Code.{labelIn}
 use Rattle.label.proofs.Label.read.Statement.{statement}
 use Rattle.label.proofs.Label.read.Tie as tie

@@ -21,14 +21,14 @@ use Rattle.table.proofs.Keys.{keys-ascend}
 use Rattle.cutting.proofs.Numbers.{Whole, key-id, key-time}
 use Rattle.cutting.proofs.Projection.{all-keep}
 use Rattle.ends.specs.Lists.{some, same}
-use Rattle.ends.proofs.Lists.{overwrite-front}
+use Rattle.ends.proofs.Lists.{WholeIds, whole-length, whole-ids, overwrite-front}
 use Rattle.ends.proofs.Tables.{same-true}
 use Rattle.ends.proofs.Reports.{number-alone, same-refl}
 use Rattle.ends.proofs.Calls.{passed, unrefused-result, refused-result, both}
 use Rattle.fold.specs.Fold.{Lent, front, ownItems, neededIds, cannotHold, wrongNeeded, sameItem, notDue, judgeFold, merged, stillNeeded, commitLeaves, committed}
 use Rattle.fold.specs.Commits.{Commit, State, lentAt, call, next}
 use Rattle.fold.proofs.Merging.{Lacks, merged-length, merged-all, merged-ascends}
-use Rattle.fold.proofs.Laying.{front-laid, items-laid, holds, front-behind, WholeIds, ids-are-whole, whole-length, whole-ids, needed-fits, spelled-passes}
+use Rattle.fold.proofs.Laying.{front-laid, items-laid, holds, front-behind, ids-are-whole, needed-fits, spelled-passes}
 
 -- ---- one check after another
 

@@ -2,12 +2,12 @@
 use Prim.Native.Nat.{ℕ, zero, suc, _*_, _/_, _%_, _-_, _^_, _≤_, _<_}
 use mathlib.Core.Path.{_≡_, refl, sym, ap, _∙_}
 use mathlib.Core.Bool.{true, false, not, _||_}
-use mathlib.Core.List.{List, [], _∷_, _++_, map, zipWith, flatten, append-assoc, append-nil}
+use mathlib.Core.List.{List, [], _∷_, _++_, map, zipWith, flatten, append-nil}
 use native.Mathlib.Nat.{le-div-iff-mul-le, div-add-mod'}
 use native.Mathlib.Omega.{arith}
 use lib.Dec.{ltb, eqb}
 use lib.ListN.{length, take, drop, length-map, length-append, length-take, length-drop}
-use lib.Seq.{take-at, drop-at, take-append-le}
+use lib.Seq.{take-at, take-append-le}
 use borrow.Author.Tests.{ltb-false, lt-ltb, le-ltb, eqb-true, not-false}
 use Rattle.message.specs.Bound.{bigEndian}
 use Rattle.message.specs.WellFormed.{All}
@@ -23,7 +23,7 @@ use Rattle.table.proofs.Keys.{Ascending}
 use Rattle.cutting.proofs.Numbers.{Whole}
 use Rattle.limit.proofs.Parts.{ids-whole}
 use Rattle.ends.specs.Lists.{overwrite}
-use Rattle.ends.proofs.Lists.{flatten-length, ids-flatten}
+use Rattle.ends.proofs.Lists.{WholeIds, flatten-length, ids-flatten}
 use Rattle.ends.proofs.Inserting.{ascends-rise}
 use Rattle.fold.specs.Fold.{Lent, front, neededIds, cannotHold, wrongNeeded, laid}
 
@@ -91,24 +91,10 @@ front-behind T e times ids =
 
 -- ---- ids one after another
 
-abbrev pub WholeIds : List (List ℕ) → Type 0
-WholeIds = All (λ (d : List ℕ). length d ≡ 32)
-
 pub ids-are-whole : (n : ℕ) (l : List ℕ) → 32 * n ≤ length l → WholeIds (idsIn n l)
 unfolding idsIn
 ids-are-whole zero l h = tt
 ids-are-whole (suc n) l h = (omega (arith, length-take 32 l), ids-are-whole n (drop 32 l) (omega (arith, length-drop 32 l)))
-
-pub whole-length : (ds : List (List ℕ)) → WholeIds ds → length (flatten ds) ≡ 32 * length ds
-unfolding flatten
-whole-length [] h = refl
-whole-length (d ∷ ds) h = let e = h .0 in omega (arith, length-append d (flatten ds), whole-length ds (h .1))
-
-pub whole-ids : (ds : List (List ℕ)) (rest : List ℕ) → WholeIds ds → idsIn (length ds) (flatten ds ++ rest) ≡ ds
-unfolding flatten idsIn
-whole-ids [] rest h = refl
-whole-ids (d ∷ ds) rest h =
-    rw (append-assoc d (flatten ds) rest, take-at d (flatten ds ++ rest) 32 (h .0), drop-at d (flatten ds ++ rest) 32 (h .0), whole-ids ds rest (h .1))
 
 -- the bytes behind so many ids do not count
 pub ids-cut : (n : ℕ) (l : List ℕ) → idsIn n (take (32 * n) l) ≡ idsIn n l

@@ -1,5 +1,5 @@
 /* How much stack a take keeps, with and without a byte limit, at most 512 KiB, a call on the largest tree of a table, at most 16 KiB, and a call that
-   folds in, at most 400 KiB. Each runs on a stack of its own, every byte of which is written before; what is changed afterwards was used. */
+   folds in, at most 200 KiB. Each runs on a stack of its own, every byte of which is written before; what is changed afterwards was used. */
 #define _GNU_SOURCE
 #include "recon.h"
 #include <pthread.h>
@@ -12,7 +12,7 @@
 #define LISTED 50
 #define LIMIT ((size_t)512 * 1024)
 #define TREE_LIMIT ((size_t)16 * 1024)
-#define FOLD_LIMIT ((size_t)400 * 1024)
+#define FOLD_LIMIT ((size_t)200 * 1024)
 #define HALF (RECON_MAX_ITEMS / 2)
 #define STACK ((size_t)4 * 1024 * 1024)
 #define UNUSED 0xa5

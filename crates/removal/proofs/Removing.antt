@@ -56,10 +56,9 @@ take-replicate (suc k) zero h = absurd (omega arith)
 take-replicate (suc k) (suc n) h = ap (λ (l : List ℕ). 0 ∷ l) (take-replicate k n (omega arith))
 
 -- marks that are 0
-pub cleared : (list : List ℕ) (count : ℕ) (marks : List ℕ) → count ≤ length marks → (t : List ℕ) → t ≡ replicate (length marks) 0
-    → take count t ≡ named [] (idsIn count list)
-cleared list count marks h t e =
-    rw (e, take-replicate count (length marks) h) (sym (named-none (idsIn count list) ∙ ap (λ (n : ℕ). replicate n 0) (ids-count count list)))
+pub cleared : (list : List ℕ) (count n : ℕ) → count ≤ n → (marks : List ℕ) → marks ≡ replicate n 0 → take count marks ≡ named [] (idsIn count list)
+cleared list count n h marks e =
+    rw (e, take-replicate count n h) (sym (named-none (idsIn count list) ∙ ap (λ (n : ℕ). replicate n 0) (ids-count count list)))
 
 -- u is none of the ids
 pub missing : (u : List ℕ) (us ds : List (List ℕ)) → some (same u) ds ≡ false → named us ds ≡ named (us ++ (u ∷ [])) ds

@@ -62,14 +62,20 @@ pub surveyed-none : (us : List (List ℕ)) (list : List ℕ) → Surveyed us lis
 unfolding idsIn
 surveyed-none us list = record { in-list = ap length (sym (none-present us)); others = none-left us list }
 
-pub surveyed-next : (us : List (List ℕ)) (list : List ℕ) (size lo count : ℕ) → rising (numbers (idsIn size list)) ≡ true → lo + count ≤ size
-    → (found left f l : ℕ) → Surveyed us list found left lo → f ≡ length (present us (idsIn count (drop (lo * 32) list))) → l ≡ length (without us (idsIn count (drop (lo * 32) list)))
-    → Surveyed us list (found + f) (left + l) (lo + count)
-surveyed-next us list size lo count rises inside found left f l s e g =
+-- how many are in the ids of one window more
+pub found-next : (us : List (List ℕ)) (list : List ℕ) (size lo count : ℕ) → rising (numbers (idsIn size list)) ≡ true → lo + count ≤ size
+    → (found f : ℕ) → found ≡ length (present us (idsIn lo list)) → f ≡ length (present us (idsIn count (drop (lo * 32) list)))
+    → found + f ≡ length (present us (idsIn (lo + count) list))
+found-next us list size lo count rises inside found f e g =
     let window = idsIn count (drop (lo * 32) list) in
     let front : rising (numbers (idsIn (lo + count) list)) ≡ true = rw (← ids-take (lo + count) size list inside) (front-rises (lo + count) (idsIn size list) rises) in
     let parts = present-parts us (idsIn lo list) window (λ u. apart 0 u (idsIn lo list) window (ascends _ (rw (ids-parts lo count list) at front))) in
-    record {
-      in-list = let z = s .in-list in rw (ids-parts lo count list) (omega (arith, parts));
-      others = count-next us lo count list left l (s .others) g;
-    }
+    rw (ids-parts lo count list) (omega (arith, parts))
+
+pub surveyed-next : (us : List (List ℕ)) (list : List ℕ) (size lo count : ℕ) → rising (numbers (idsIn size list)) ≡ true → lo + count ≤ size
+    → (found left f l : ℕ) → Surveyed us list found left lo → f ≡ length (present us (idsIn count (drop (lo * 32) list))) → l ≡ length (without us (idsIn count (drop (lo * 32) list)))
+    → Surveyed us list (found + f) (left + l) (lo + count)
+surveyed-next us list size lo count rises inside found left f l s e g = record {
+  in-list = found-next us list size lo count rises inside found f (s .in-list) e;
+  others = count-next us lo count list left l (s .others) g;
+}

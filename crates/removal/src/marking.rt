@@ -1,4 +1,6 @@
-// Ids of a list that rises marked, where they are among others in any order.
+// Ids of a list that rises marked, where they are among others in any order. A mark is a bit.
+use crate::bits::fitting;
+use crate::bits::set_bit;
 use crate::hints::note_buckets;
 use crate::hints::place_by;
 use index::buckets::shift_for;
@@ -15,7 +17,7 @@ ghost use Rattle.message.specs.Bound.{bigEndian};
 ghost use Rattle.message.specs.Code.{idsIn};
 ghost use Rattle.table.specs.Lists.{rising};
 ghost use Rattle.ends.specs.Lists.{some, same};
-ghost use Rattle.removal.specs.Removing.{named, present};
+ghost use Rattle.removal.specs.Removing.{bitsIn, named, present};
 
 // Sets the mark of the id that begins a slice, if it is one of the `count` ids that begin the list; whether it is.
 fn mark_one(
@@ -27,16 +29,16 @@ fn mark_one(
     ends: &[u32],
     marks: &mut [u8],
 ) -> bool
-    requires { ⌜ (count * 32 ≤ length (now list)) × (32 ≤ length (now id)) × (count ≤ length (now marks)) × (rising (map (bigEndian 32) (idsIn count (now list))) ≡ true) × (shift < 64) ⌝ }
+    requires { ⌜ (count * 32 ≤ length (now list)) × (32 ≤ length (now id)) × (count ≤ length (now marks) * 8) × (rising (map (bigEndian 32) (idsIn count (now list))) ≡ true) × (shift < 64) ⌝ }
     ensures { λ r. ⌜ r ≡ some (same (take 32 (now (id .entry)))) (idsIn count (now (list .entry))) ⌝ }
-    ensures { λ _. ⌜ ((us : List (List ℕ)) → take count (now (marks .entry)) ≡ named us (idsIn count (now (list .entry))) → take count (now (marks .exit)) ≡ named (us ++ (take 32 (now (id .entry)) ∷ [])) (idsIn count (now (list .entry)))) ⌝ }
+    ensures { λ _. ⌜ ((us : List (List ℕ)) → take count (bitsIn (now (marks .entry))) ≡ named us (idsIn count (now (list .entry))) → take count (bitsIn (now (marks .exit))) ≡ named (us ++ (take 32 (now (id .entry)) ∷ [])) (idsIn count (now (list .entry)))) ⌝ }
 {
     let first = word(id, 0);
     let place = place_by(list, count, id, first, low, shift, ends);
     if !known(list, count, id, first, place) {
         return false;
     }
-    marks[place] = 1;
+    set_bit(marks, place);
     true
 }
 
@@ -53,9 +55,9 @@ fn mark_inside(
     ends: &[u32],
     marks: &mut [u8],
 ) -> usize
-    requires { ⌜ (0 < count) × (count * 32 ≤ length (now list)) × (m * 32 ≤ length (now ids)) × (count ≤ length (now marks)) × (rising (map (bigEndian 32) (idsIn count (now list))) ≡ true) × (low ≡ bigEndian 8 (now list)) × (high ≡ bigEndian 8 (drop ((count - 1) * 32) (now list))) × (shift < 64) × (take count (now marks) ≡ named [] (idsIn count (now list))) ⌝ }
+    requires { ⌜ (0 < count) × (count * 32 ≤ length (now list)) × (m * 32 ≤ length (now ids)) × (count ≤ length (now marks) * 8) × (rising (map (bigEndian 32) (idsIn count (now list))) ≡ true) × (low ≡ bigEndian 8 (now list)) × (high ≡ bigEndian 8 (drop ((count - 1) * 32) (now list))) × (shift < 64) × (take count (bitsIn (now marks)) ≡ named [] (idsIn count (now list))) ⌝ }
     ensures { λ r. ⌜ r ≡ length (present (idsIn m (now (ids .entry))) (idsIn count (now (list .entry)))) ⌝ }
-    ensures { λ _. ⌜ take count (now (marks .exit)) ≡ named (idsIn m (now (ids .entry))) (idsIn count (now (list .entry))) ⌝ }
+    ensures { λ _. ⌜ take count (bitsIn (now (marks .exit))) ≡ named (idsIn m (now (ids .entry))) (idsIn count (now (list .entry))) ⌝ }
 {
     let mut found = 0;
     let mut j = next_inside(ids, 0, m, low, high);
@@ -69,8 +71,8 @@ fn mark_inside(
     found
 }
 
-// The marks of the `count` ids that begin the list: 1 where the id is one of the m ids that begin a slice, otherwise 0; how many of these m are ids of the list.
-pub(crate) fn mark_all(
+// As `mark_all`, for ids that have room in one window of hints.
+fn mark_window(
     list: &[u8],
     count: usize,
     ids: &[u8],
@@ -78,9 +80,9 @@ pub(crate) fn mark_all(
     ends: &mut [u32],
     marks: &mut [u8],
 ) -> usize
-    requires { ⌜ (0 < count) × (count * 32 ≤ length (now list)) × (m * 32 ≤ length (now ids)) × (count ≤ length (now marks)) × (rising (map (bigEndian 32) (idsIn count (now list))) ≡ true) ⌝ }
+    requires { ⌜ (0 < count) × (count * 32 ≤ length (now list)) × (m * 32 ≤ length (now ids)) × (count ≤ length (now marks) * 8) × (rising (map (bigEndian 32) (idsIn count (now list))) ≡ true) ⌝ }
     ensures { λ r. ⌜ r ≡ length (present (idsIn m (now (ids .entry))) (idsIn count (now (list .entry)))) ⌝ }
-    ensures { λ _. ⌜ take count (now (marks .exit)) ≡ named (idsIn m (now (ids .entry))) (idsIn count (now (list .entry))) ⌝ }
+    ensures { λ _. ⌜ take count (bitsIn (now (marks .exit))) ≡ named (idsIn m (now (ids .entry))) (idsIn count (now (list .entry))) ⌝ }
 {
     clear(marks);
     let low = word(list, 0);
@@ -89,4 +91,30 @@ pub(crate) fn mark_all(
     let shift = shift_for(low, high, ends.len());
     note_buckets(list, count, low, shift, ends, m);
     mark_inside(list, count, ids, m, low, high, shift, ends, marks)
+}
+
+// The marks of the `count` ids that begin the list: 1 where the id is one of the m ids that begin a slice, otherwise 0; how many of these m are ids of the list. The list is
+// passed in windows, each of eight ids for a hint, so that a search stays where memory is near.
+pub(crate) fn mark_all(
+    list: &[u8],
+    count: usize,
+    ids: &[u8],
+    m: usize,
+    ends: &mut [u32],
+    marks: &mut [u8],
+) -> usize
+    requires { ⌜ (count * 32 ≤ length (now list)) × (m * 32 ≤ length (now ids)) × (count ≤ length (now marks) * 8) × (rising (map (bigEndian 32) (idsIn count (now list))) ≡ true) × (0 < length (now ends)) ⌝ }
+    ensures { λ r. ⌜ r ≡ length (present (idsIn m (now (ids .entry))) (idsIn count (now (list .entry)))) ⌝ }
+    ensures { λ _. ⌜ take count (bitsIn (now (marks .exit))) ≡ named (idsIn m (now (ids .entry))) (idsIn count (now (list .entry))) ⌝ }
+{
+    let mut found = 0;
+    let mut lo = 0;
+    while lo < count {
+        let n = fitting(count - lo, ends.len());
+        let start = lo * 32;
+        let at = lo / 8;
+        found += mark_window(&list[start..], n, ids, m, ends, &mut marks[at..]);
+        lo += n;
+    }
+    found
 }

@@ -13,13 +13,14 @@ use Rattle.message.proofs.Order.{Small, small-drop}
 use Rattle.writer.proofs.Laying.{rest-is, rest-length}
 use Rattle.ends.specs.Lists.{some, same}
 use Rattle.index.specs.Filter.{Outside}
+use Rattle.removal.specs.Removing.{bitsIn}
 use Rattle.removal.proofs.Removing.{word-outside, Found, found-none, found-few, found-one, found-other, found-past}
 use Rattle.removal.proofs.marking.mark_inside.Statement.{statement}
 use Rattle.removal.proofs.marking.mark_inside.Tie as tie
 
 abbrev Inv-loop : tie.InvT-loop
 Inv-loop list count ids m low high shift ends marks₀ found₀ j₀ marks found j =
-    (j ≤ m) × (length marks ≡ length marks₀) × Found (idsIn count list) ids marks count found j
+    (j ≤ m) × (length marks ≡ length marks₀) × Found (idsIn count list) ids (bitsIn marks) count found j
 
 abbrev μ-loop : tie.MeasureT-loop
 μ-loop list count ids m low high shift ends marks₀ found₀ j₀ marks found j = m - j
@@ -48,7 +49,7 @@ loop-holds c =
     let s = c .before .before .before .before .before in
     let a = s .args in
     let e = c .next-inside .ensures in
-    (e .1, refl, past (c .before) (a .marks .now) 0 0 (c .next-inside .result) (e .0) (e .2) (found-none (idsIn (a .count) (a .list .now)) (a .ids .now) (a .count) (a .marks .now) (s .pre .8)))
+    (e .1, refl, past (c .before) (bitsIn (a .marks .now)) 0 0 (c .next-inside .result) (e .0) (e .2) (found-none (idsIn (a .count) (a .list .now)) (a .ids .now) (a .count) (bitsIn (a .marks .now)) (s .pre .8)))
 
 mark-one-requires : tie.Need-mark-one-requires Inv-loop μ-loop
 mark-one-requires c κs =
@@ -60,7 +61,7 @@ add-found : tie.Need-add-found Inv-loop μ-loop
 add-found c =
     let s = c .before .before .before .before .before .before .before .before .before .before .before .before .before in
     let l = c .before .before .before .before .before .before .before .loop in
-    omega (arith, found-few (idsIn (s .args .count) (s .args .list .now)) (s .args .ids .now) (s .args .count) (l .marks) (l .found) (l .j) (l .inv .2))
+    omega (arith, found-few (idsIn (s .args .count) (s .args .list .now)) (s .args .ids .now) (s .args .count) (bitsIn (l .marks)) (l .found) (l .j) (l .inv .2))
 
 loop-again : tie.Need-loop-again Inv-loop μ-loop
 loop-again c =
@@ -70,13 +71,13 @@ loop-again c =
     let t = c .before .before .before .before .mark-one in
     let e = c .next-inside2 .ensures in
     let ds = idsIn (a .count) (a .list .now) in
-    let after = t .last .1 .1 .1 .1 .1 .1 .0 in
+    let after = bitsIn (t .last .1 .1 .1 .1 .1 .1 .0) in
     let told = rw (rest-is (l .j * 32) (a .ids .now)) at (t .ensures .0) in
     let marked = rw (rest-is (l .j * 32) (a .ids .now)) at (t .ensures .1 (idsIn (l .j) (a .ids .now)) (l .inv .2 .marked)) in
     let now : Found ds (a .ids .now) after (a .count) (c .before .if1 .found) (l .j + 1) =
     ⊎-elim
-    (λ w. rw (w .1) (found-one ds (a .ids .now) (a .count) (l .marks) (l .found) (l .j) (l .inv .2) after (sym told ∙ w .0 .taken) marked))
-    (λ w. rw (w .1) (found-other ds (a .ids .now) (a .count) (l .marks) (l .found) (l .j) (l .inv .2) after (sym told ∙ w .0 .left) marked))
+    (λ w. rw (w .1) (found-one ds (a .ids .now) (a .count) (bitsIn (l .marks)) (l .found) (l .j) (l .inv .2) after (sym told ∙ w .0 .taken) marked))
+    (λ w. rw (w .1) (found-other ds (a .ids .now) (a .count) (bitsIn (l .marks)) (l .found) (l .j) (l .inv .2) after (sym told ∙ w .0 .left) marked))
     (c .before .if1 .came) in
     (e .1, t .kept .1 .1 .1 .1 .1 .1 .0 ∙ l .inv .1, past (c .before .before .before .before .before .before .before .before .before .before) after (c .before .if1 .found) (l .j + 1) (c .next-inside2 .result) (e .0) (e .2) now)
 

@@ -1,4 +1,4 @@
--- `removal::take_out_with` meets its contract. The invariant: the first lo ids are passed, `TakingOut`.
+-- `removal::take_out_blocks` meets its contract. The invariant: the first lo ids are passed, `TakingOut`.
 use Prim.Native.Nat.{_-_, _*_, _≤_}
 use mathlib.Core.Path.{_≡_, refl, _∙_}
 use native.Mathlib.Omega.{arith}
@@ -6,9 +6,10 @@ use lib.ListN.{length}
 use Rattle.message.specs.Code.{idsIn}
 use Rattle.message.specs.WellFormed.{Bytes}
 use Rattle.message.proofs.Order.{small-bytes}
+use Rattle.removal.proofs.Blocks.{some-fit}
 use Rattle.removal.proofs.Removing.{window-rises, TakingOut, taking-starts, taking-few, taking-behind, taking-goes}
-use Rattle.removal.proofs.take_out_with.Statement.{statement}
-use Rattle.removal.proofs.take_out_with.Tie as tie
+use Rattle.removal.proofs.take_out_blocks.Statement.{statement}
+use Rattle.removal.proofs.take_out_blocks.Tie as tie
 
 abbrev Inv-loop : tie.InvT-loop
 Inv-loop list₀ size ids m ends₀ marks₀ kept₀ lo₀ list ends marks kept lo =
@@ -23,12 +24,12 @@ small c = small-bytes (c .before .before .before .before .args .list .now) (λ k
 loop-holds : tie.Need-loop-holds Inv-loop μ-loop
 loop-holds c = let a = c .before .before .before .before .args in (refl, refl, omega arith, taking-starts (idsIn (a .m) (a .ids .now)) (a .list .now))
 
-keep-in-window-requires : tie.Need-keep-in-window-requires Inv-loop μ-loop
-keep-in-window-requires c κs =
+keep-in-block-requires : tie.Need-keep-in-block-requires Inv-loop μ-loop
+keep-in-block-requires c κs =
     let s = c .before .before .before .before .before .before .before .before .before .before in
     let a = s .args in
     let l = c .before .before .before .before .before .loop in
-    let n = c .before .before .before .smaller in
+    let n = c .before .before .before .fitting in
     let h = l .inv .3 .long in
     let us = idsIn (a .m) (a .ids .now) in
     let fits : n .result ≤ a .size - l .lo = n .ensures .0 in
@@ -39,16 +40,24 @@ keep-in-window-requires c κs =
       n .ensures .1,
       rw (taking-behind us (a .list .now) (small (c .before .before .before .before .before .before)) (l .list) (l .kept) (l .lo) (l .inv .3) inside)
           (window-rises (a .list .now) (a .size) (l .lo) (n .result) (omega arith) (s .pre .2)),
-      n .ensures .2 (omega arith) (omega (arith, l .inv .1, s .pre .3)),
+      omega (arith, l .inv .0, s .pre .3),
     )
+
+loop-less : tie.Need-loop-less Inv-loop μ-loop
+loop-less c =
+    let l = c .before .before .before .before .before .before .before .before .before .before .before .before .loop in
+    let s = c .before .before .before .before .before .before .before .before .before .before .before .before .before .before .before .before .before in
+    let n = c .before .before .before .before .before .before .before .before .before .before .fitting in
+    let w = some-fit (n .result) (s .args .size - l .lo) (length (l .marks)) (n .ensures .2) (omega arith) (omega (arith, l .inv .1, s .pre .4)) in
+    omega (arith, n .ensures .0)
 
 loop-again : tie.Need-loop-again Inv-loop μ-loop
 loop-again c =
     let s = c .before .before .before .before .before .before .before .before .before .before .before .before .before .before .before .before .before in
     let a = s .args in
     let l = c .before .before .before .before .before .before .before .before .before .before .before .before .loop in
-    let n = c .before .before .before .before .before .before .before .before .before .before .smaller in
-    let k = c .before .before .before .before .before .before .keep-in-window in
+    let n = c .before .before .before .before .before .before .before .before .before .before .fitting in
+    let k = c .before .before .before .before .before .before .keep-in-block in
     let fits : n .result ≤ a .size - l .lo = n .ensures .0 in (
       k .kept .1 .1 .1 .1 .1 .1 .0 ∙ l .inv .0,
       k .kept .1 .1 .1 .1 .1 .1 .1 .0 ∙ l .inv .1,
@@ -63,8 +72,8 @@ returns c =
     let all : l .lo ≡ c .before .before .before .before .before .before .args .size = omega (arith, l .inv .2) in
     (rw all at (l .inv .3 .size), rw all at (l .inv .3 .bytes))
 
-pub take-out-with-spec : {M : Type 1} → statement M
-take-out-with-spec =
+pub take-out-blocks-spec : {M : Type 1} → statement M
+take-out-blocks-spec =
     tie.close
     (tie.spec
     Inv-loop
@@ -72,9 +81,9 @@ take-out-with-spec =
     loop-holds
     (λ c. omega arith)
     (λ c κs. tt)
-    keep-in-window-requires
-    (λ c. omega (arith, c .before .before .before .before .before .before .before .before .before .before .smaller .ensures .0))
-    (λ c. let w = c .before .before .before .before .before .before .before .before .before .before .smaller .ensures .2 (omega arith) (omega (arith, c .before .before .before .before .before .before .before .before .before .before .before .before .loop .inv .1, c .before .before .before .before .before .before .before .before .before .before .before .before .before .before .before .before .before .pre .3)) in omega (arith, c .before .before .before .before .before .before .before .before .before .before .smaller .ensures .0))
+    keep-in-block-requires
+    (λ c. omega (arith, c .before .before .before .before .before .before .before .before .before .before .fitting .ensures .0))
+    loop-less
     loop-again
     (λ c. c .before .loop .inv .3 .long)
     (λ c. c .before .loop .inv .0)

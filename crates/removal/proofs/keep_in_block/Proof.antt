@@ -1,4 +1,4 @@
--- `removal::keep_in_window` meets its contract.
+-- `removal::keep_in_block` meets its contract.
 use Prim.Native.Nat.{_*_}
 use native.Mathlib.Omega.{arith}
 use lib.ListN.{drop}
@@ -6,14 +6,14 @@ use borrow.Author.Needs.{needs}
 use Rattle.message.specs.Code.{idsIn}
 use Rattle.writer.proofs.Laying.{rest-is, rest-length}
 use Rattle.removal.proofs.Removing.{unmarked-is}
-use Rattle.removal.proofs.keep_in_window.Statement.{statement}
-use Rattle.removal.proofs.keep_in_window.Tie as tie
+use Rattle.removal.proofs.keep_in_block.Statement.{statement}
+use Rattle.removal.proofs.keep_in_block.Tie as tie
 
 mark-all-requires : tie.Need-mark-all-requires
 mark-all-requires c κs =
     let s = c .before .before .before .before .before .before .before .before in
     let a = s .args in
-    (s .pre .5, omega (arith, s .pre .1, rest-length (a .lo * 32) (a .list .now)), s .pre .2, s .pre .3, rw (rest-is (a .lo * 32) (a .list .now)) (s .pre .4))
+    (omega (arith, s .pre .1, rest-length (a .lo * 32) (a .list .now)), s .pre .2, s .pre .3, rw (rest-is (a .lo * 32) (a .list .now)) (s .pre .4), s .pre .5)
 
 returns : tie.Need-returns
 returns c =
@@ -22,8 +22,8 @@ returns c =
     let e = unmarked-is _ (idsIn (a .m) (a .ids .now)) (idsIn (a .count) (drop (a .lo * 32) (a .list .now))) (rw (rest-is (a .lo * 32) (a .list .now)) at (c .before .before .before .before .before .before .before .before .before .mark-all .ensures .1)) in
     (rw e at (k .ensures .0), rw e at (k .ensures .1))
 
-pub keep-in-window-spec : {M : Type 1} → statement M
-keep-in-window-spec =
+pub keep-in-block-spec : {M : Type 1} → statement M
+keep-in-block-spec =
     tie.close
     (tie.spec
     (λ c. search needs)

@@ -195,13 +195,28 @@ fn session(after: &After, marked: usize, needed: usize, done: bool) -> Check {
     }
 }
 
+/// The largest values that one to ten bytes hold.
+const LARGEST: [(u64, &str); 10] = [
+    (127, "7F"),
+    (16_383, "FF 7F"),
+    (2_097_151, "FF*2 7F"),
+    (268_435_455, "FF*3 7F"),
+    (34_359_738_367, "FF*4 7F"),
+    (4_398_046_511_103, "FF*5 7F"),
+    (562_949_953_421_311, "FF*6 7F"),
+    (72_057_594_037_927_935, "FF*7 7F"),
+    (9_223_372_036_854_775_807, "FF*8 7F"),
+    (18_446_744_073_709_551_615, "81 FF*8 7F"),
+];
+
 /// Values as the time code of a bound and as the count of a list.
 fn varints(case: &mut Case<'_, '_>) -> Check {
-    for (value, bytes) in [(127, "7F"), (128, "81 00"), (300, "82 2C"), (u64::MAX, "81 FF*8 7F")] {
-        let three = table(&[(0, &[1]), (1, &[2]), (value - 1, &[3])]);
-        let opened = opened(case, end(&three, 2, 2))?;
-        let start = from_text(&format!("61 {} 00 01", bytes));
-        same(&opened.message()[..start.len()], &start, "messages with a time code")?;
+    time_code(case, 300, "82 2C")?;
+    for (zeros, (value, bytes)) in LARGEST.into_iter().enumerate() {
+        time_code(case, value, bytes)?;
+        if let Some(next) = value.checked_add(1) {
+            time_code(case, next, &format!("81 80*{} 00", zeros))?;
+        }
     }
     for (count, bytes) in [(0, "00"), (127, "7F"), (128, "81 00"), (300, "82 2C")] {
         let items: Vec<Item> = (0..count).map(|i| (9, id_from(&[(i >> 8) as u8, i as u8]))).collect();
@@ -210,6 +225,20 @@ fn varints(case: &mut Case<'_, '_>) -> Check {
         let expected = [from_text(&format!("61 00 00 02 {}", bytes)), list.ids.clone()].concat();
         same(opened.message(), &expected, "messages with a list")?;
     }
+    Ok(())
+}
+
+/// An opening whose first bound has this time code, with exact room and one byte less.
+fn time_code(case: &mut Case<'_, '_>, value: u64, bytes: &str) -> Check {
+    let three = table(&[(0, &[1]), (1, &[2]), (value - 1, &[3])]);
+    let opener = end(&three, 2, 2);
+    let opened = opened(case, opener)?;
+    let start = from_text(&format!("61 {} 00 01", bytes));
+    same(&opened.message()[..start.len()], &start, "messages with a time code")?;
+    let (marks, out) = (case.rng.bytes(3), case.rng.bytes(opened.message().len()));
+    let input = opener.input(Call::Open).with_state(NEW_SESSION, &marks, &[]);
+    case.expect(&input.with_out(&out), 0)?;
+    case.expect(&input.with_out(&out[1..]), 12)?;
     Ok(())
 }
 

@@ -5,7 +5,7 @@ use Prim.Native.Nat.{ℕ}
 use lib.Dec.{eqb}
 use lib.ListN.{length}
 use Rattle.message.specs.declared.Bound.{Bound}
-use Rattle.theory.specs.Rounds.{Cut}
+use Rattle.theory.specs.Rounds.{toLast, Cut}
 use Rattle.table.specs.Answer as A
 use Rattle.ends.specs.Calls.{Result}
 use Rattle.ends.specs.Opener as E
@@ -14,7 +14,7 @@ use Rattle.capi.specs.declared.Answer.{Answer}
 use Rattle.capi.specs.declared.SessionAnswer.{SessionAnswer}
 
 abbrev pub cutBy : ℕ → ℕ → Cut
-cutBy parts limit = record { parts = parts; limit = limit }
+cutBy parts limit = record { parts = parts; limit = limit; odd = toLast }
 
 abbrev pub lentTo : Session → List ℕ → List ℕ → List ℕ → E.Lent
 lentTo s marks needed out = record { session = record { marked = s .marked; needed = s .needed; done = s .done }; marks = marks; needed = needed; out = out }

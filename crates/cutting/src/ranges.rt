@@ -21,6 +21,7 @@ ghost use Rattle.message.specs.Code.{boundOf};
 ghost use Rattle.label.specs.Label as labels;
 ghost use Rattle.label.specs.Code.{wholeIds};
 ghost use Rattle.theory.specs.Cutting.{split};
+ghost use Rattle.theory.specs.Rounds.{toLast};
 ghost use Rattle.theory.specs.Standard.{sizes};
 ghost use Rattle.writer.specs.Private.{Lawful};
 ghost use Rattle.writer.specs.Stream.{before};
@@ -118,7 +119,7 @@ fn put_parts(
     span: Span,
 ) -> Write
     requires { ⌜ Passed (lent (now times) (now own)) × Inside (lent (now times) (now own)) span × (0 < parts) × (parts ≤ span .hi - span .lo) ⌝ }
-    ensures { λ r. ⌜ HandsOver (writes pass) (spec.fingerprintRanges (split (sizes parts (span .hi - span .lo)) (ownIn (lent (now (times .entry)) (now (own .entry))) span)) (upperOf span)) (before writer (bufferOf pass (now (out .entry)))) (after r (bufferOf pass (now (out .exit)))) ⌝ }
+    ensures { λ r. ⌜ HandsOver (writes pass) (spec.fingerprintRanges (split (sizes toLast parts (span .hi - span .lo)) (ownIn (lent (now (times .entry)) (now (own .entry))) span)) (upperOf span)) (before writer (bufferOf pass (now (out .entry)))) (after r (bufferOf pass (now (out .exit)))) ⌝ }
 {
     let count = span.hi - span.lo;
     let mut answer = Write {

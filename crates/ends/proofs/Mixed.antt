@@ -1,4 +1,4 @@
--- Each call of either end may be given a byte limit: `demand3-mixed`; and what a session that is done left, `ended`.
+-- Each call of either end may be given a byte limit and may cut by either rule: `demand3-mixed`; and what a session that is done left, `ended`.
 use Prim.Native.Nat.{ℕ}
 use mathlib.Core.Path.{_≡_}
 use mathlib.Core.Bool.{true}
@@ -6,22 +6,38 @@ use mathlib.Core.List.{List, _++_}
 use lib.ListN.{length}
 use Rattle.message.specs.WellFormed.{Bytes}
 use Rattle.theory.specs.Message.{Message}
-use Rattle.theory.specs.Rounds.{Cut, Nested}
+use Rattle.theory.specs.Rounds.{OddItems, Cut, Nested, Divided}
 use Rattle.theory.specs.Demand.{Enough}
 use Rattle.theory.proofs.Tests.{clash}
 use Rattle.table.specs.Answer.{answer, refused}
 use Rattle.table.specs.Table.{Table, items}
+use Rattle.cutting.specs.Cutting.{outsideLimits}
 use Rattle.limit.specs.Limit.{Limit, unlimited}
 use Rattle.ends.specs.Opener.{Lent, openedWithin}
 use Rattle.ends.specs.Demand.{Place, Reported, OneTime}
 use Rattle.ends.specs.Takes.{Owed}
-use Rattle.ends.specs.Mixed.{TakeWithin, handedTo, openingWithin, taking, AnswersWithin, Answered, WholeReply, WholeQuery, WholeFirst, Takes, Demand3Mixed}
+use Rattle.ends.specs.Mixed.{by, AnyTake, handedTo, openingWithin, taking, AnswersWithin, Answered, WholeReply, WholeQuery, WholeFirst, Takes, Demand3Mixed}
 use Rattle.ends.proofs.Lists.{Listed}
 use Rattle.ends.proofs.Tables.{Kept, kept}
 use Rattle.ends.proofs.Calls.{Checked, byChecks, answer-checks, unrefused-opening, refused-take}
-use Rattle.ends.proofs.Relations.{Means, means-alone, Begun}
+use Rattle.ends.proofs.Relations.{Means, means-alone, Begun, Replied}
 use Rattle.ends.proofs.Takes.{Lawful, Narrows, reported, owed-at, listed, open-never, owed-never}
 use Rattle.ends.proofs.Own.{opening-begun, first-divided, answer-replied, answer-nests, take-took, take-divides}
+
+-- ---- the relations ask nothing of where the odd items go
+
+kept-by : (o : OddItems) {T : Table} {c : Cut} → Kept T c → Kept T (by o c)
+kept-by o k = record { own = k .own; parts = k .parts; listed = k .listed }
+
+checked-by : (o : OddItems) {T : Table} {c : Cut} → Checked T (by o c) → Checked T c
+unfolding outsideLimits
+checked-by o k = record { size = k .size; order = k .order; limits = k .limits }
+
+divided-by : (o : OddItems) {c : Cut} {T : List ℕ} {r n : Message (List ℕ)} → Divided (by o c) T r n → Divided c T r n
+divided-by o w = record {
+  parts = λ x y f st. let z = w .parts x y f st in (z .0, record { many = z .1 .many; share = z .1 .share });
+  lists = w .lists;
+}
 
 -- What a session that is done left: it was handed an answer, so that the responder's table and cut passed checks 1 to 3; its reports are as owed; and its needed list
 -- is whole ids.
@@ -31,38 +47,42 @@ pub record Ended (A B : Table) (b : Cut) (p : Place) : Type 0 where
   pub list : Listed (p .session .needed) (p .needed)
 
 module _ (A B : Table) (a b : Cut) where
-  refuses : (x : TakeWithin) (l : Lent) (k : ℕ) → taking A B a b x l .answer ≡ refused k → taking A B a b x l .lent ≡ l
-  refuses x l k e = refused-take (x .limit) A a (x .handed .reply) l k e
+  refuses : (x : AnyTake) (l : Lent) (k : ℕ) → taking A B a b x l .answer ≡ refused k → taking A B a b x l .lent ≡ l
+  refuses x l k e = refused-take (x .limit) A (by (x .odd) a) (x .handed .reply) l k e
 
   -- a responder that passes checks 1 to 3
   module _ (kA : Kept A a) (kB : Kept B b) where
+    abbrev replied : (limit : Limit) (o : OddItems) {q r : List ℕ} → AnswersWithin A B a b limit o q r → {Q : Message (List ℕ)} → Means q Q → Replied B Q r
+    replied limit o {q} {r} h w = answer-replied limit B (by o b) (kept-by o kB) q r (h .out) (h .size) (h .unrefused) (h .written) w
+
     abbrev lawful : Lawful handedTo (taking A B a b) (Answered A B a b) A B a
     lawful = record {
       refuses = refuses;
-      takes = λ x l n e h w. take-took (x .limit) A a kA (x .handed .reply) l n e w;
-      replies = λ x h w. answer-replied (h .0) B b kB (x .handed .query) (x .handed .reply) (h .1 .out) (h .1 .size) (h .1 .unrefused) (h .1 .written) w;
+      takes = λ x l n e h w. take-took (x .limit) A (by (x .odd) a) (kept-by (x .odd) kA) (x .handed .reply) l n e w;
+      replies = λ x h w. replied (h .0) (h .1) (h .2) w;
     }
 
     -- the same bytes as without a limit say the same
-    nested : (q r : List ℕ) (limit : Limit) (h : AnswersWithin A B a b limit q r) (z : AnswersWithin A B a b unlimited q r) {Q : Message (List ℕ)} (w : Means q Q)
-        → Nested Q (answer-replied limit B b kB q r (h .out) (h .size) (h .unrefused) (h .written) w .message)
-    nested q r limit h z w =
-        let here = answer-replied limit B b kB q r (h .out) (h .size) (h .unrefused) (h .written) w in
-        let there = answer-replied unlimited B b kB q r (z .out) (z .size) (z .unrefused) (z .written) w in
-        rw (means-alone (here .means) (there .means)) (answer-nests B b kB q r (z .out) (z .size) (z .unrefused) (z .written) w)
+    nested : {limit : Limit} {o o′ : OddItems} {q r : List ℕ} (h : AnswersWithin A B a b limit o q r) (z : AnswersWithin A B a b unlimited o′ q r)
+        {Q : Message (List ℕ)} (w : Means q Q) → Nested Q (replied limit o h w .message)
+    nested {limit} {o} {o′} {q} {r} h z w =
+        rw (means-alone (replied limit o h w .means) (replied unlimited o′ z w .means))
+        (answer-nests B (by o′ b) (kept-by o′ kB) q r (z .out) (z .size) (z .unrefused) (z .written) w)
 
     narrows : (limit : Limit) (l : Lent) (n : ℕ) (e : openedWithin limit A a l .answer ≡ answer n)
         → Narrows handedTo (taking A B a b) (Answered A B a b) A B a lawful (openingWithin limit A a l) (opening-begun limit A a kA l n e)
         (WholeFirst A B a b limit) (WholeReply A B a b) (WholeQuery A B a b)
     narrows limit l n e = record {
       opens = first-divided limit A a kA l n e;
-      replies = λ x h w z. nested (x .handed .query) (x .handed .reply) (h .0) (h .1) z w;
-      takes = λ x l n e h w z. take-divides (x .limit) A a kA (x .handed .reply) l n e w z;
+      replies = λ x h w z. nested (h .2) (z .1) w;
+      takes = λ x l n e h w z. divided-by (x .odd) (take-divides (x .limit) A (by (x .odd) a) (kept-by (x .odd) kA) (x .handed .reply) l n e w z);
     }
 
   -- a responder that does not answers nothing
-  never : (Checked B b → ⊥) → (x : TakeWithin) → Answered A B a b x → ⊥
-  never fails x h = fails (answer-checks (h .0) B b (x .handed .query) (h .1 .out) (h .1 .size) (h .1 .unrefused))
+  never : (Checked B b → ⊥) → (x : AnyTake) → Answered A B a b x → ⊥
+  never fails x h =
+      let answers = h .2 in
+      fails (checked-by (h .1) (answer-checks (h .0) B (by (h .1) b) (x .handed .query) (answers .out) (answers .size) (answers .unrefused)))
 
   module _ (bytes-A : Bytes (A .ids)) (bytes-B : Bytes (B .ids)) (limit : Limit) (lent : Lent) (n : ℕ) (e : openedWithin limit A a lent .answer ≡ answer n) where
     kA : Kept A a

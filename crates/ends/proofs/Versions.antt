@@ -19,7 +19,7 @@ use Rattle.ends.specs.Responder.{otherVersion, answeredWithin}
 use Rattle.ends.specs.Opener.{Lent, firstQuery, openingLeaves, openedWithin, nextQuery, skipsOnly, written, takeLeaves, takenWithin}
 use Rattle.ends.specs.Demand.{Take, Place, sends, behindCall, opening, call, next, run}
 use Rattle.ends.specs.Takes.{none, then-refused, then-taken}
-use Rattle.ends.specs.Mixed.{openingWithin, taking, Takes}
+use Rattle.ends.specs.Mixed.{by, openingWithin, taking, Takes}
 use Rattle.ends.specs.Versions.{Begins61, AnswersByVersion, Sends61}
 use Rattle.ends.proofs.Lists.{overwrite-front}
 use Rattle.ends.proofs.Calls.{unrefused-opening, unrefused-take}
@@ -121,9 +121,9 @@ run-begins A B a b p before (t ∷ ts) =
 mix-begins : (A B : Table) (a b : Cut) (limit : Limit) (l : Lent) {p : Place} → Takes A B a b limit l p → AllBegin (p .sent)
 mix-begins A B a b limit l none = opened-begins limit A a l
 mix-begins A B a b limit l (then-refused {p = p} ρ x k e) =
-    behind-begins (taking A B a b x _) (p .sent) [] (take-begins (x .limit) A a (x .handed .reply) _) (mix-begins A B a b limit l ρ)
+    behind-begins (taking A B a b x _) (p .sent) [] (take-begins (x .limit) A (by (x .odd) a) (x .handed .reply) _) (mix-begins A B a b limit l ρ)
 mix-begins A B a b limit l (then-taken {p = p} ρ x n e asked allowed) =
-    behind-begins (taking A B a b x _) (p .sent) [] (take-begins (x .limit) A a (x .handed .reply) _) (mix-begins A B a b limit l ρ)
+    behind-begins (taking A B a b x _) (p .sent) [] (take-begins (x .limit) A (by (x .odd) a) (x .handed .reply) _) (mix-begins A B a b limit l ρ)
 
 pub sends-61 : Sends61
 sends-61 = record {

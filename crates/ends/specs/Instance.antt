@@ -5,7 +5,7 @@ use mathlib.Core.List.{List, [], _∷_, _++_}
 use Prim.Native.Nat.{ℕ}
 use lib.ListN.{length, replicate}
 use Rattle.message.specs.WellFormed.{Bytes}
-use Rattle.theory.specs.Rounds.{Cut}
+use Rattle.theory.specs.Rounds.{toLast, Cut}
 use Rattle.table.specs.Answer.{answer}
 use Rattle.table.specs.Table.{Table, items}
 use Rattle.ends.specs.Opener.{Lent, opened, taken}
@@ -35,7 +35,7 @@ abbrev pub theirs : Table
 theirs = record { times = 6 ∷ []; ids = starting 0x02 }
 
 abbrev pub two : Cut
-two = record { parts = 2; limit = 2 }
+two = record { parts = 2; limit = 2; odd = toLast }
 
 -- what is lent to the opening; the needed buffer has no room yet
 abbrev pub lent : Lent

@@ -105,7 +105,7 @@ pub table :
     × (map (λ (e : Message). spellMessage (e .ranges)) messages ≡ map (λ (e : Message). e .bytes) messages)
     × (map (λ (e : Message). writeMessage (e .ranges)) merged ≡ map (λ (e : Message). e .bytes) merged)
     × (map (λ (e : Neighbours). shortest (e .first) (e .second)) neighbours ≡ map (λ (e : Neighbours). e .bound) neighbours)
-    × (map (λ (e : Division). sizes (e .parts) (e .items)) divisions ≡ map (λ (e : Division). e .sizes) divisions)
+    × (map (λ (e : Division). sizes (e .odd) (e .parts) (e .items)) divisions ≡ map (λ (e : Division). e .sizes) divisions)
     × (map (λ (e : Opening). opened (e .table) (e .cut) (beforeOpening e)) openings ≡ map afterOpening openings)
     × (map (λ (e : Answering). answered (e .table) (e .cut) (e .query) out) answers ≡ map afterAnswer answers)
     × (map (λ (e : Refused). answered one two (e .bytes) out) refusedQueries ≡ map (λ (e : Refused). record { answer = Answer.refused (e .number); lent = out }) refusedQueries)

@@ -9,6 +9,7 @@ use Rattle.message.specs.Code.{idsIn}
 use Rattle.message.specs.Bound.{bigEndian, idSpace, key, readPrefix, readCoded, readBound, spellPrefix, spellBound}
 use Rattle.message.specs.Message.{readIds, readOfMode, readPayload, readRange, readRanges, readMessage, spellPayload, spellRange, spellRanges, spellMessage}
 use Rattle.message.specs.Meaning.{isSkip, prepend, tidy, writeMessage}
+use Rattle.theory.specs.Rounds.{toLast}
 use Rattle.table.specs.Lists.{keep, every, rising}
 use Rattle.table.specs.Table.{keyOf, items, wrongSize, notRising, within}
 use Rattle.cutting.specs.Cutting.{outsideLimits, cut}
@@ -38,14 +39,14 @@ record Met : Type 0 where
 met : Met
 unfolding readMessage readRanges readRange readBound readCoded readPrefix readPayload readOfMode readIds readVarint readDigits readBytes key bigEndian idSpace writeMessage tidy prepend isSkip spellMessage spellRanges spellRange spellBound spellPrefix spellPayload spellVarint digitsBefore flatten cut items idsIn zipWith keep every rising keyOf wrongSize notRising within outsideLimits some same overwrite eachRange treat responder.reply otherVersion answeredWithin wrongBuffers wrongContents firstQuery openingLeaves begin openedWithin nextQuery written unlisted marksAfter unowned insert neededAfter takeLeaves conclude takenWithin belowLeast limited sentMessage cannotHold wrongNeeded sameItem notDue judgeFold enter merged stillNeeded laid commitLeaves committed
 met =
-    let answers : AnswersWithin ours theirs two two unlimited query reply = record { out = replicate 37 0; size = 37; unrefused = refl; written = refl } in
+    let answers : AnswersWithin ours theirs two two unlimited toLast query reply = record { out = replicate 37 0; size = 37; unrefused = refl; written = refl } in
     record {
       asked = record {
         ours-bytes = ends.asked .ours-bytes;
         theirs-bytes = ends.asked .theirs-bytes;
         once = ends.asked .once;
         opens = refl;
-        takes = then-taken none (record { handed = take₃; limit = unlimited }) 0 refl (List·Memᴰ·head refl) (unlimited, answers);
+        takes = then-taken none (record { handed = take₃; limit = unlimited; odd = toLast }) 0 refl (List·Memᴰ·head refl) (unlimited, toLast, answers);
         done = refl;
         none-collides = none-collides ours theirs last query reply refl (starting 0x01 ∷ [], refl) (starting 0x02 ∷ [], refl);
         as-held = (λ m e. not-both e, (λ m e i z. z, (λ m e. not-both e, tt)));

@@ -1,16 +1,17 @@
 -- The session with byte limits computed from the definitions, SHA-256 included, one call after another, and that it meets all that `Demand3Mixed` asks for.
 use mathlib.Core.Path.{_≡_, refl, sym, ap, _∙_}
 use mathlib.Core.Bool.{Bool, true, false}
-use mathlib.Core.List.{List, [], _∷_, _++_, flatten, zipWith, List·Memᴰ, List·Memᴰ·head}
+use mathlib.Core.List.{List, [], _∷_, _++_, flatten, zipWith}
 use Prim.Native.Nat.{ℕ}
 use native.Mathlib.Omega.{arith}
-use lib.ListN.{take, replicate}
+use lib.ListN.{replicate}
 use Rattle.message.specs.Reader.{Outcome, read, readBytes}
 use Rattle.message.specs.Varint.{readDigits, readVarint, digitsBefore, spellVarint}
 use Rattle.message.specs.Code.{idsIn}
 use Rattle.message.specs.Bound.{infinity, finite, bigEndian, idSpace, key, readPrefix, readCoded, readBound, spellPrefix, spellBound}
 use Rattle.message.specs.Message.{skip, ids, Range, range, readIds, readOfMode, readPayload, readRange, readRanges, readMessage, spellPayload, spellRange, spellRanges, spellMessage}
 use Rattle.message.specs.Meaning.{isSkip, prepend, tidy, writeMessage}
+use Rattle.theory.specs.Rounds.{toFirst, toLast}
 use Rattle.theory.specs.Standard.{sizes}
 use Rattle.theory.specs.Cutting.{split}
 use Rattle.table.specs.Answer.{answer}
@@ -20,23 +21,20 @@ use Rattle.sha256.specs.Fips180.{digest, blocks, pad, padding, compress, plus, 
 use Rattle.label.specs.Label as L
 use Rattle.label.specs.Label.{littleEndian, total, labelOf, lowBytes, hashed}
 use Rattle.cutting.specs.Cutting.{fingerprintOf, shared, shortest, outsideLimits, innerBound, fingerprintRanges, cut}
-use Rattle.limit.specs.Limit.{Limit, unlimited, bytes, belowLeast, exceeds, largest, runEnd, closed, fits, longest, firstIds, mostIds, partOf, shortened, limited, sentMessage}
+use Rattle.limit.specs.Limit.{unlimited, bytes, belowLeast, exceeds, largest, runEnd, closed, fits, longest, firstIds, mostIds, partOf, shortened, limited, sentMessage}
 use Rattle.ends.specs.Lists.{some, same, overwrite}
 use Rattle.ends.specs.Calls.{Result, eachRange}
 use Rattle.ends.specs.Responder.{compare, treat, reply, otherVersion, answeredWithin}
 use Rattle.ends.specs.Opener.{Lent, wrongBuffers, wrongContents, firstQuery, openingLeaves, begin, openedWithin, nextQuery, written, unlisted, marksAfter, unowned, insert, neededAfter, takeLeaves, conclude, takenWithin}
-use Rattle.ends.specs.Demand.{Place, hands, behindCall}
-use Rattle.ends.specs.Takes.{lentAt, called, none, then-taken}
-use Rattle.ends.specs.Mixed.{TakeWithin, handedTo, openingWithin, taking, AnswersWithin, Answered, WholeQuery, Takes}
+use Rattle.ends.specs.Demand.{Place, behindCall}
+use Rattle.ends.specs.Takes.{lentAt, none, then-taken}
+use Rattle.ends.specs.Mixed.{by, openingWithin, WholeQuery, Takes}
 use Rattle.ends.specs.Instance.{starting, two}
-use Rattle.ends.proofs.Mixed.{demand3-mixed}
-use Rattle.rounds.specs.Limits.{idsFrom, ours, theirs, long, lent, query₁, reply₁, query₂, reply₂, limit, take₁, take₂, after, place₁, place₂, AskedUpTo, OwedHere, First, Second, ComesTo}
+use Rattle.rounds.specs.Limits.{idsFrom, ours, theirs, long, lent, query₁, reply₁, query₂, reply₂, limit, take₁, take₂, place₁, place₂, AskedUpTo, First, Second, ComesTo}
 use Rattle.rounds.proofs.Tests.{all-bytes, one-time}
+use Rattle.rounds.proofs.Mixed.{last-sent, answering, answers, behind, answered, owed}
 
 -- ---- the calls, one after another, each from the place behind the one before
-
-abbrev answering : ℕ → List ℕ → Result (List ℕ)
-answering n out = record { answer = answer n; lent = out }
 
 abbrev leaving : ℕ → ℕ → ℕ → Bool → List ℕ → List ℕ → List ℕ → Result Lent
 leaving n marked needed done marks list out = record {
@@ -69,7 +67,7 @@ ranges₂ =
 record Calls : Type 0 where
   cut-short : exceeds limit (writeMessage (firstQuery long (items ours))) ≡ true
   opens : openedWithin limit ours long lent ≡ left₀
-  answers₁ : answeredWithin limit theirs two query₁ (replicate 78 0) ≡ answering 78 reply₁
+  answers₁ : answeredWithin limit theirs (by toFirst two) query₁ (replicate 78 0) ≡ answering 78 reply₁
   takes₁ : takenWithin unlimited ours long reply₁ (lentAt at₀ (take₁ .handed)) ≡ left₁
   answers₂ : answeredWithin (bytes 5000) theirs two query₂ (replicate 111 0) ≡ answering 111 reply₂
   -- the same bytes without a limit
@@ -97,19 +95,12 @@ calls = record {
 is₀ : openingWithin limit ours long lent ≡ at₀
 is₀ = ap (λ (r : Result Lent). behindCall r [] []) (calls .opens)
 
-abbrev calledAt : Place → TakeWithin → Result Lent
-calledAt = called handedTo (taking ours theirs long two) (Answered ours theirs long two)
-
 is₁ : place₁ ≡ at₁
-is₁ =
-    ap (λ (p : Place). after p take₁) is₀
-    ∙ ap (λ (r : Result Lent). behindCall r (at₀ .sent) (hands (r .answer) (take₁ .handed) ++ [])) (calls .takes₁)
+is₁ = behind ours theirs long two is₀ take₁ (calls .takes₁)
 
 pub comes-to : ComesTo
 unfolding idsFrom
-comes-to =
-    ap (λ (p : Place). after p take₂) is₁
-    ∙ ap (λ (r : Result Lent). behindCall r (at₁ .sent) (hands (r .answer) (take₂ .handed) ++ at₁ .handed)) (calls .takes₂)
+comes-to = behind ours theirs long two is₁ take₂ (calls .takes₂)
 
 -- ---- what is asked
 
@@ -120,9 +111,6 @@ sent₀ = ap (λ (p : Place). p .sent) is₀
 sent₁ : place₁ .sent ≡ query₂ ∷ query₁ ∷ []
 unfolding idsFrom
 sent₁ = ap (λ (p : Place). p .sent) is₁
-
-last-sent : {q : List ℕ} {sent old : List (List ℕ)} → sent ≡ q ∷ old → List·Memᴰ q sent
-last-sent e = rw e (List·Memᴰ·head refl)
 
 asked : {p : Place} → Takes ours theirs long two limit lent p → AskedUpTo p
 unfolding items idsIn zipWith every same idsFrom
@@ -135,26 +123,15 @@ asked ρ = record {
   takes = ρ;
 }
 
-answers : {n : ℕ} {q r : List ℕ} (by : Limit) (out : List ℕ) → answeredWithin by theirs two q out ≡ answering n r → take n r ≡ r
-    → AnswersWithin ours theirs long two by q r
-answers {n} by out e whole = record {
-  out = out;
-  size = n;
-  unrefused = ap (λ (a : Result (List ℕ)). a .answer) e;
-  written = sym whole ∙ ap (λ (a : Result (List ℕ)). take n (a .lent)) (sym e);
-}
-
 takes₁ : Takes ours theirs long two limit lent place₁
 takes₁ =
-    then-taken none take₁ 47
-    (ap (λ (p : Place). calledAt p take₁ .answer) is₀ ∙ ap (λ (r : Result Lent). r .answer) (calls .takes₁))
-    (last-sent sent₀) (limit, answers limit (replicate 78 0) (calls .answers₁) refl)
+    then-taken none take₁ 47 (answered ours theirs long two is₀ take₁ (calls .takes₁)) (last-sent sent₀)
+    (limit, toFirst, answers ours theirs long two limit toFirst (replicate 78 0) (calls .answers₁) refl)
 
 takes₂ : Takes ours theirs long two limit lent place₂
 takes₂ =
-    then-taken takes₁ take₂ 0
-    (ap (λ (p : Place). calledAt p take₂ .answer) is₁ ∙ ap (λ (r : Result Lent). r .answer) (calls .takes₂))
-    (last-sent sent₁) (bytes 5000, answers (bytes 5000) (replicate 111 0) (calls .answers₂) refl)
+    then-taken takes₁ take₂ 0 (answered ours theirs long two is₁ take₂ (calls .takes₂)) (last-sent sent₁)
+    (bytes 5000, toLast, answers ours theirs long two (bytes 5000) toLast (replicate 111 0) (calls .answers₂) refl)
 
 -- as whatever ranges the second reply is read, it is these
 whole-query₂ : WholeQuery ours theirs long two take₂
@@ -168,13 +145,12 @@ first = (asked takes₁, (([], sent₀), tt), calls .cut-short, ap (λ (p : Plac
 
 pub second : Second
 unfolding exceeds asked takes₁ takes₂
-second = (asked takes₂, ((query₁ ∷ [], sent₁), tt), ((λ rs e. refl), answers unlimited (replicate 111 0) (calls .whole₂) refl, whole-query₂))
-
--- ---- what is owed
-
-pub owed : {p : Place} (h : AskedUpTo p) → OwedHere h
-owed {p} h = demand3-mixed ours theirs long two (h .ours-bytes) (h .theirs-bytes) (h .once) 0 (h .smallest) limit lent 4090 (h .opens) p (h .takes)
+second = (
+  asked takes₂,
+  ((query₁ ∷ [], sent₁), tt),
+  ((λ rs e. refl), (toLast, answers ours theirs long two unlimited toLast (replicate 111 0) (calls .whole₂) refl), whole-query₂),
+)
 
 -- by the theorem, and not computed
 pub done : place₂ .session .done ≡ true
-done = owed (second .0) .ends (second .2) (second .1)
+done = owed ours theirs long two 0 limit (second .0) .ends (second .2) (second .1)

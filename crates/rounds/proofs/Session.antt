@@ -51,16 +51,16 @@ leaving a needed out = record {
 }
 
 abbrev at₀ : Place
-at₀ = behindCall (leaving (answer 39) [] (query₁ ++ (0xEE ∷ []))) [] []
+at₀ = behindCall (leaving (answer 40) [] query₁) [] []
 
 abbrev at₁ : Place
-at₁ = behind at₀ take₁ (leaving (answer 74) [] (query₂ ++ replicate 26 0xDD))
+at₁ = behind at₀ take₁ (leaving (answer 43) [] (query₂ ++ replicate 57 0xDD))
 
 abbrev at₂ : Place
 at₂ = behind at₁ take₂ (leaving (refused 8) [] [])
 
 abbrev at₃ : Place
-at₃ = behind at₂ take₃ (leaving (answer 74) (replicate 32 0xCC) (query₂ ++ replicate 16 0xDD))
+at₃ = behind at₂ take₃ (leaving (answer 43) (replicate 32 0xCC) (query₂ ++ replicate 47 0xDD))
 
 abbrev at₄ : Place
 at₄ = behind at₃ take₄ (leaving (refused 11) (replicate 64 0xCC) [])
@@ -69,20 +69,20 @@ abbrev left₅ : Result Lent
 left₅ = record {
   answer = answer 0;
   lent = record {
-    session = record { marked = 2; needed = 3; done = true };
-    marks = 1 ∷ 1 ∷ 0 ∷ [];
+    session = record { marked = 1; needed = 3; done = true };
+    marks = 1 ∷ 0 ∷ 0 ∷ [];
     needed = starting 0x04 ++ (starting 0x05 ++ (starting 0x06 ++ replicate 32 0xCC));
     out = [];
   };
 }
 
 record Calls : Type 0 where
-  opens : opened ours two lent ≡ leaving (answer 39) [] (query₁ ++ (0xEE ∷ []))
-  answers₁ : answered theirs two query₁ (replicate 50 0) ≡ answering 40 (reply₁ ++ replicate 10 0)
-  answers₂ : answered theirs two query₂ (replicate 150 0) ≡ answering 106 (reply₂ ++ replicate 44 0)
-  takes₁ : callAt at₀ take₁ ≡ leaving (answer 74) [] (query₂ ++ replicate 26 0xDD)
+  opens : opened ours two lent ≡ leaving (answer 40) [] query₁
+  answers₁ : answered theirs two query₁ (replicate 50 0) ≡ answering 41 (reply₁ ++ replicate 9 0)
+  answers₂ : answered theirs two query₂ (replicate 150 0) ≡ answering 107 (reply₂ ++ replicate 43 0)
+  takes₁ : callAt at₀ take₁ ≡ leaving (answer 43) [] (query₂ ++ replicate 57 0xDD)
   takes₂ : callAt at₁ take₂ ≡ leaving (refused 8) [] []
-  takes₃ : callAt at₂ take₃ ≡ leaving (answer 74) (replicate 32 0xCC) (query₂ ++ replicate 16 0xDD)
+  takes₃ : callAt at₂ take₃ ≡ leaving (answer 43) (replicate 32 0xCC) (query₂ ++ replicate 47 0xDD)
   takes₄ : callAt at₃ take₄ ≡ leaving (refused 11) (replicate 64 0xCC) []
   takes₅ : callAt at₄ take₅ ≡ left₅
 

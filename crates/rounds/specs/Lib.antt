@@ -1,2 +1,4 @@
 pub mod Session
+pub mod Mixed
 pub mod Limits
+pub mod Carried

@@ -1,30 +1,19 @@
 -- A session on bytes in which a byte limit is met: 128 items against four. Ours has the list limit 128, so that L is 0: 128 × 2^0 is at least 128. The opening is cut
--- short, and one take after it is not enough: L + 1 is not owed there (SPEC 12.6). A second take comes to the end.
+-- short, and one take after it is not enough: L + 1 is not owed there (SPEC 12.6). A second take comes to the end. One answer is by the former rule (SPEC 6.10).
 use mathlib.Core.Path.{_≡_}
 use mathlib.Core.Bool.{true, false}
 use mathlib.Core.List.{List, [], _∷_, _++_}
 use Prim.Native.Nat.{ℕ, zero, suc, _+_}
-use lib.ListN.{length, replicate}
-use Rattle.message.specs.WellFormed.{Bytes}
+use lib.ListN.{replicate}
 use Rattle.message.specs.Meaning.{writeMessage}
-use Rattle.theory.specs.Rounds.{Cut}
-use Rattle.table.specs.Answer.{answer}
+use Rattle.theory.specs.Rounds.{toLast, Cut}
 use Rattle.table.specs.Table.{Table, items}
 use Rattle.limit.specs.Limit.{Limit, unlimited, bytes, exceeds}
-use Rattle.ends.specs.Opener.{Lent, firstQuery, openedWithin}
-use Rattle.ends.specs.Demand.{Place, OneTime, Smallest}
-use Rattle.ends.specs.Takes.{next, Row, Whole, Owed}
-use Rattle.ends.specs.Mixed.{TakeWithin, handedTo, openingWithin, taking, Answered, WholeReply, WholeQuery, WholeFirst, Takes}
+use Rattle.ends.specs.Opener.{Lent, firstQuery}
+use Rattle.ends.specs.Demand.{Place}
+use Rattle.ends.specs.Mixed.{AnyTake, openingWithin}
 use Rattle.ends.specs.Instance.{starting, two}
-
--- What `Demand3Mixed` asks of two tables and cuts, of L, of an opening that writes n bytes, and of the takes after it, up to the place p.
-pub record Asked (A B : Table) (a b : Cut) (L : ℕ) (limit : Limit) (lent : Lent) (n : ℕ) (p : Place) : Type 0 where
-  pub ours-bytes : Bytes (A .ids)
-  pub theirs-bytes : Bytes (B .ids)
-  pub once : OneTime (items A ++ items B)
-  pub smallest : Smallest a (length (A .times)) L
-  pub opens : openedWithin limit A a lent .answer ≡ answer n
-  pub takes : Takes A B a b limit lent p
+use Rattle.rounds.specs.Mixed.{after, Asked, InRow, AllWhole}
 
 -- ---- the two ends
 
@@ -45,7 +34,7 @@ abbrev pub theirs : Table
 theirs = record { times = 5 ∷ 7 ∷ 7 ∷ 7 ∷ []; ids = id 5 ++ (starting 0x02 ++ (starting 0x03 ++ starting 0x04)) }
 
 abbrev pub long : Cut
-long = record { parts = 2; limit = 128 }
+long = record { parts = 2; limit = 128; odd = toLast }
 
 abbrev pub lent : Lent
 lent = record { session = record { marked = 0; needed = 0; done = false }; marks = replicate 128 0xEE; needed = []; out = replicate 4096 0xEE }
@@ -60,7 +49,7 @@ query₁ =
     ++ (0x00 ∷ 0x00 ∷ 0x01 ∷ 0x1C ∷ 0x73 ∷ 0x4A ∷ 0x0C ∷ 0xF1 ∷ 0x88 ∷ 0x26 ∷ 0xCC ∷ 0x4F ∷ 0x0B ∷ 0xA6 ∷ 0x47 ∷ 0x99 ∷ 0x5D ∷ 0xA3 ∷ 0xD5
     ∷ []))
 
--- The id 01 05, and behind 01 7F two parts: up to time 7 and the prefix 04 the fingerprint of 02 and 03, then that of 04.
+-- The id 01 05, and behind 01 7F two parts: up to time 7 and the prefix 04 the fingerprint of 02 and 03, then that of 04. This answer was cut by the former rule.
 abbrev pub reply₁ : List ℕ
 reply₁ =
     0x61
@@ -84,46 +73,32 @@ abbrev pub limit : Limit
 limit = bytes 4096
 
 -- without a limit, and with one again
-abbrev pub take₁ : TakeWithin
-take₁ = record { handed = record { query = query₁; reply = reply₁; out = replicate 47 0xDD; behind = [] }; limit = unlimited }
+abbrev pub take₁ : AnyTake
+take₁ = record { handed = record { query = query₁; reply = reply₁; out = replicate 47 0xDD; behind = [] }; limit = unlimited; odd = toLast }
 
-abbrev pub take₂ : TakeWithin
-take₂ = record { handed = record { query = query₂; reply = reply₂; out = []; behind = replicate 96 0xCC }; limit = limit }
-
-abbrev pub after : Place → TakeWithin → Place
-after = next handedTo (taking ours theirs long two) (Answered ours theirs long two)
+abbrev pub take₂ : AnyTake
+take₂ = record { handed = record { query = query₂; reply = reply₂; out = []; behind = replicate 96 0xCC }; limit = limit; odd = toLast }
 
 abbrev pub place₁ : Place
-place₁ = after (openingWithin limit ours long lent) take₁
+place₁ = after ours theirs long two (openingWithin limit ours long lent) take₁
 
 abbrev pub place₂ : Place
-place₂ = after place₁ take₂
+place₂ = after ours theirs long two place₁ take₂
 
 abbrev pub AskedUpTo : Place → Type 0
 AskedUpTo p = Asked ours theirs long two 0 limit lent 4090 p
 
--- the list up to a place ends in a row of L + 1 takes
-abbrev pub InRow : {p : Place} → AskedUpTo p → Type 0
-InRow h = Row handedTo (taking ours theirs long two) (Answered ours theirs long two) 1 (h .takes)
-
--- in which nothing was cut short
-abbrev pub AllWhole : {p : Place} → AskedUpTo p → Type 0
-AllWhole h =
-    Whole handedTo (taking ours theirs long two) (Answered ours theirs long two)
-    (WholeFirst ours theirs long two limit) (WholeReply ours theirs long two) (WholeQuery ours theirs long two) 1 (h .takes)
-
-abbrev pub OwedHere : {p : Place} → AskedUpTo p → Type 0
-OwedHere h =
-    Owed handedTo (taking ours theirs long two) (Answered ours theirs long two)
-    (WholeFirst ours theirs long two limit) (WholeReply ours theirs long two) (WholeQuery ours theirs long two) ours theirs 0 (h .takes)
-
 -- `Demand3Mixed` speaks of the first take. The opening was cut short, and the session is not done.
 abbrev pub First : Type 0
-First = (h : AskedUpTo place₁) × InRow h × (exceeds limit (writeMessage (firstQuery long (items ours))) ≡ true) × (place₁ .session .done ≡ false)
+First =
+    (h : AskedUpTo place₁)
+    × InRow ours theirs long two 0 limit h
+    × (exceeds limit (writeMessage (firstQuery long (items ours))) ≡ true)
+    × (place₁ .session .done ≡ false)
 
 -- It speaks of both, and the second is a row for which L + 1 is owed.
 abbrev pub Second : Type 0
-Second = (h : AskedUpTo place₂) × InRow h × AllWhole h
+Second = (h : AskedUpTo place₂) × InRow ours theirs long two 0 limit h × AllWhole ours theirs long two 0 limit h
 
 -- They come to this: all of ours but 01 05 are marked, 02, 03 and 04 are needed.
 abbrev pub last : Place

@@ -91,7 +91,7 @@ module _ (T : Table) (by : Bytes (T .ids)) (ok : Passed T) where
 
     prints : leb (length (T .times)) (c .limit) ≡ false → All Print (firstQuery c (items T))
     unfolding firstQuery cut
-    prints e = rw (items-length T, e) (parts-print (split (sizes (c .parts) (length (T .times))) (items T)) infinity)
+    prints e = rw (items-length T, e) (parts-print (split (sizes (c .odd) (c .parts) (length (T .times))) (items T)) infinity)
 
     at-once : leb (length (T .times)) (c .limit) ≡ true → (h .done ≡ []) × (h .next ≡ range infinity (ids (idsOf (items T))))
     at-once e = none-first (h .done) (h .next) (h .rest) (range infinity (ids (idsOf (items T)))) (h .splits ∙ one-list e)

@@ -78,7 +78,7 @@ module _ (listing : Bool) (c : Cut) (o : outsideLimits c ≡ false) (is : List I
   unfolding cut
   cut-short t = rw t refl
 
-  cut-long : leb (length own) (c .limit) ≡ false → cut c own y ≡ fingerprintRanges (split (sizes (c .parts) (length own)) own) y
+  cut-long : leb (length own) (c .limit) ≡ false → cut c own y ≡ fingerprintRanges (split (sizes (c .odd) (c .parts) (length own)) own) y
   unfolding cut
   cut-long t = rw t refl
 
@@ -90,8 +90,8 @@ module _ (listing : Bool) (c : Cut) (o : outsideLimits c ≡ false) (is : List I
       (λ t.
       let l = within-limits c o in
       let many = leb-false (length own) (c .limit) t in
-      let ps = split (sizes (c .parts) (length own)) own in
-      let some = parts-end ps y (some-parts (sizes (c .parts) (length own)) own (c .parts) (length own) (sizes-fit (c .parts) (length own) (omega arith) (omega arith)) (omega arith)) in
+      let ps = split (sizes (c .odd) (c .parts) (length own)) own in
+      let some = parts-end ps y (some-parts (sizes (c .odd) (c .parts) (length own)) own (c .parts) (length own) (sizes-fit (c .odd) (c .parts) (length own) (omega arith) (omega arith)) (omega arith)) in
       rw (is-cut, cut-long t) (prints t (parts-print ps y) (some .0) (some .1)))
 
   made-is : (p : P.Payload) (m : List ℕ) → Made y own (listsOwn listing (c .limit) (length own) p) (treat (given.given listing) c is x y (payloadOf p m))

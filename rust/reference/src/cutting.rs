@@ -6,18 +6,28 @@ use crate::message::{Payload, Range};
 use crate::refusal;
 use crate::table::{Items, Table};
 
-/// "A cut is b (parts, 2 to 64) and t (list limit, b to 4,096)."
+/// Where the items go that are left over "when a range doesn't divide evenly": "its parts tie for the odd items".
+#[derive(Clone, Copy, Debug, PartialEq, Eq, PartialOrd, Ord)]
+pub enum Odd {
+    /// The former rule: "the first (c mod b) parts" hold one more.
+    ToFirst,
+    /// "From now on the last (c mod b) parts hold one more."
+    ToLast,
+}
+
+/// "A cut is b (parts, 2 to 64) and t (list limit, b to 4,096)." The rule goes with it.
 #[derive(Clone, Copy)]
 pub struct Cut {
     b: usize,
     t: usize,
+    odd: Odd,
 }
 
 impl Cut {
     /// Refusal 3.
-    pub fn given(b: usize, t: usize) -> Result<Cut, u8> {
+    pub fn given(b: usize, t: usize, odd: Odd) -> Result<Cut, u8> {
         if (2..=64).contains(&b) && (b..=4096).contains(&t) {
-            Ok(Cut { b, t })
+            Ok(Cut { b, t, odd })
         } else {
             Err(refusal::CUT)
         }
@@ -36,7 +46,7 @@ pub fn parts(table: &Table, cut: Cut, items: Items) -> Vec<Part> {
     let sizes = if count <= cut.t {
         vec![count]
     } else {
-        part_sizes(count, cut.b)
+        part_sizes(count, cut.b, cut.odd)
     };
     let mut from = items.start;
     let mut parts = Vec::with_capacity(sizes.len());
@@ -49,10 +59,14 @@ pub fn parts(table: &Table, cut: Cut, items: Items) -> Vec<Part> {
     parts
 }
 
-/// "The first (c mod b) parts hold floor(c / b) + 1 items, the others floor(c / b)."
-fn part_sizes(c: usize, b: usize) -> Vec<usize> {
+/// Of the parts (c mod b) "hold floor(c / b) + 1 items, the others floor(c / b)".
+fn part_sizes(c: usize, b: usize, odd: Odd) -> Vec<usize> {
+    let is_larger = |part: usize| match odd {
+        Odd::ToFirst => part < c % b,
+        Odd::ToLast => part >= b - c % b,
+    };
     (0..b)
-        .map(|part| if part < c % b { c / b + 1 } else { c / b })
+        .map(|part| if is_larger(part) { c / b + 1 } else { c / b })
         .collect()
 }
 
@@ -94,16 +108,39 @@ mod tests {
 
     #[test]
     fn e6_part_sizes() {
-        assert_eq!(part_sizes(7, 3), [3, 2, 2]);
-        assert_eq!(part_sizes(6, 3), [2, 2, 2]);
-        assert_eq!(part_sizes(8, 3), [3, 3, 2]);
-        assert_eq!(part_sizes(3, 2), [2, 1]);
+        let last = |c, b| part_sizes(c, b, Odd::ToLast);
+        assert_eq!(last(7, 3), [2, 2, 3]);
+        assert_eq!(last(6, 3), [2, 2, 2]);
+        assert_eq!(last(8, 3), [2, 3, 3]);
+        assert_eq!(last(3, 2), [1, 2]);
+    }
+
+    #[test]
+    fn part_sizes_by_the_former_rule() {
+        let first = |c, b| part_sizes(c, b, Odd::ToFirst);
+        assert_eq!(first(7, 3), [3, 2, 2]);
+        assert_eq!(first(6, 3), [2, 2, 2]);
+        assert_eq!(first(8, 3), [3, 3, 2]);
+        assert_eq!(first(3, 2), [2, 1]);
+    }
+
+    /// By either rule no part has more than ceil(c / b) items, which the bound on takes in a row rests on.
+    #[test]
+    fn largest_parts() {
+        for (c, b) in (2..=64).flat_map(|b| (b + 1..300).map(move |c| (c, b))) {
+            for odd in [Odd::ToFirst, Odd::ToLast] {
+                let sizes = part_sizes(c, b, odd);
+                assert_eq!((sizes.len(), sizes.iter().sum()), (b, c));
+                assert_eq!(sizes.iter().max(), Some(&((c + b - 1) / b)), "{c} items, {b} parts");
+                assert_eq!(sizes.iter().min(), Some(&(c / b)), "{c} items, {b} parts");
+            }
+        }
     }
 
     #[test]
     fn cut_limits() {
         for (b, t) in [(2, 2), (2, 4096), (64, 64), (64, 4096)] {
-            assert!(Cut::given(b, t).is_ok(), "{} {}", b, t);
+            assert!(Cut::given(b, t, Odd::ToLast).is_ok(), "{} {}", b, t);
         }
         for (b, t) in [
             (0, 0),
@@ -114,7 +151,7 @@ mod tests {
             (2, 4097),
             (usize::MAX, usize::MAX),
         ] {
-            assert_eq!(Cut::given(b, t).err(), Some(3), "{} {}", b, t);
+            assert_eq!(Cut::given(b, t, Odd::ToLast).err(), Some(3), "{} {}", b, t);
         }
     }
 }

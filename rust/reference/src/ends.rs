@@ -1,7 +1,7 @@
 //! The responder's answer, the opener's session, and the fingerprint of a range ("The two ends").
 
 use crate::bound::{Bound, Id};
-use crate::cutting::{cutting, list, parts, whole, Cut};
+use crate::cutting::{cutting, list, parts, whole, Cut, Odd};
 use crate::label::Label;
 use crate::limit::Limit;
 use crate::message::{offers_other_version, read, write_version, Payload, Range};
@@ -77,8 +77,23 @@ pub fn answer_within(
     query: &[u8],
     out: &mut [u8],
 ) -> Result<usize, u8> {
+    answer_by(Odd::ToLast, times, ids, b, t, bytes, query, out)
+}
+
+/// Answer with a byte limit, or none, ranges cut by either rule.
+#[allow(clippy::too_many_arguments)]
+pub fn answer_by(
+    odd: Odd,
+    times: &[u64],
+    ids: &[u8],
+    b: usize,
+    t: usize,
+    bytes: Option<usize>,
+    query: &[u8],
+    out: &mut [u8],
+) -> Result<usize, u8> {
     let table = Table::lent(times, ids)?; // 1, 2
-    let cut = Cut::given(b, t)?; // 3
+    let cut = Cut::given(b, t, odd)?; // 3
     let limit = Limit::given(bytes)?; // 14
     if offers_other_version(query) {
         return write_version(out); // 12
@@ -143,8 +158,24 @@ pub fn open_within(
     needed: &[u8],
     out: &mut [u8],
 ) -> Result<Sent, u8> {
+    open_by(Odd::ToLast, times, ids, b, t, bytes, marks, needed, out)
+}
+
+/// Open with a byte limit, or none, the whole range cut by either rule.
+#[allow(clippy::too_many_arguments)]
+pub fn open_by(
+    odd: Odd,
+    times: &[u64],
+    ids: &[u8],
+    b: usize,
+    t: usize,
+    bytes: Option<usize>,
+    marks: &mut [u8],
+    needed: &[u8],
+    out: &mut [u8],
+) -> Result<Sent, u8> {
     let table = Table::lent(times, ids)?; // 1, 2
-    let cut = Cut::given(b, t)?; // 3
+    let cut = Cut::given(b, t, odd)?; // 3
     let limit = Limit::given(bytes)?; // 14
     judge_buffers(&table, marks, needed)?; // 4
     let parts = parts(&table, cut, 0..table.count());
@@ -196,8 +227,26 @@ pub fn take_within(
     needed: &mut [u8],
     out: &mut [u8],
 ) -> Result<Sent, u8> {
+    take_by(Odd::ToLast, times, ids, b, t, bytes, reply, session, marks, needed, out)
+}
+
+/// Take with a byte limit, or none, ranges cut by either rule.
+#[allow(clippy::too_many_arguments)]
+pub fn take_by(
+    odd: Odd,
+    times: &[u64],
+    ids: &[u8],
+    b: usize,
+    t: usize,
+    bytes: Option<usize>,
+    reply: &[u8],
+    session: Session,
+    marks: &mut [u8],
+    needed: &mut [u8],
+    out: &mut [u8],
+) -> Result<Sent, u8> {
     let table = Table::lent(times, ids)?; // 1, 2
-    let cut = Cut::given(b, t)?; // 3
+    let cut = Cut::given(b, t, odd)?; // 3
     let limit = Limit::given(bytes)?; // 14
     judge_buffers(&table, marks, needed)?; // 4
     let mut report = Report::judged(session, marks, needed)?; // 4

@@ -5,6 +5,9 @@
 //! (Cutting), `ends` (The two ends), `tree` (Labels kept in a tree), `limit` (Byte limits), `fold` (Folding in),
 //! `refusal` (In checking order).
 //!
+//! Ranges are cut by the rule of today, where the last parts are larger. `open_by`, `answer_by` and `take_by` cut by the
+//! former rule, too, as an end does that began its session under it.
+//!
 //! Quotation marks in comments hold words of the specification. Every refusal is its number there, in `Err`.
 //! A refused call has changed no lent byte.
 
@@ -25,7 +28,9 @@ mod table;
 mod tree;
 
 pub use bound::Bound;
+pub use cutting::Odd;
 pub use ends::{answer, answer_within, fingerprint, open, open_within, take, take_within, GivenBound, Sent, Session};
+pub use ends::{answer_by, open_by, take_by};
 pub use fold::{fold_commit, fold_inquire, Committed, Inquiry};
 pub use label::Label;
 pub use message::{read, spell, tidy, write, Payload, Range};

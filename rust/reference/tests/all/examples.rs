@@ -2,11 +2,16 @@
 
 use crate::sessions::Opener;
 use crate::support::{at, bytes, id, joined, last, range, Lent, INFINITY};
-use reference::{read, spell, Payload, Session};
+use reference::{read, spell, Odd, Payload, Session};
 
 /// The query that a table opens with.
 fn opened(table: &Lent, b: usize, t: usize) -> Vec<u8> {
     Opener::open(table.clone(), b, t).1
+}
+
+/// The same by the former rule.
+fn opened_by_former_rule(table: &Lent, b: usize, t: usize) -> Vec<u8> {
+    Opener::open_by(Odd::ToFirst, table.clone(), b, t, None).1
 }
 
 fn e4_table() -> Lent {
@@ -54,49 +59,92 @@ fn e3_empty_tables() {
     );
 }
 
+/// The fingerprints of the ids 01 alone, 02 and 03, 01 and 02, and 03 alone.
+const ID_1: &str = "2e255099d6d6bee307c8e7075acc78f9";
+const IDS_2_3: &str = "d27c48779563ae9b8f7bfc1ba05462c8";
+const IDS_1_2: &str = "055ec405febfad804c1c5638d7369361";
+const ID_3: &str = "7e839d7aa6d079f68e2589f6c668a00f";
+
+/// "In E4 and E5 the parts hold 1 and 2 items, so both begin 61, 06 01 02 01 and have 40 bytes."
 #[test]
-fn e4_first_query() {
-    let table = e4_table();
-    let f = table.fingerprint(&at(0, &[]), &at(7, &[])).unwrap();
-    let g = table.fingerprint(&at(7, &[]), &INFINITY).unwrap();
-    let query = opened(&table, 2, 2);
-    assert_eq!(query, joined(&[&bytes("61 08 00 01"), &f, &bytes("00 00 01"), &g]));
-    assert_eq!(query.len(), 39);
-    // The bytes in full.
-    let full = "61 08 00 01 055ec405febfad804c1c5638d7369361 00 00 01 7e839d7aa6d079f68e2589f6c668a00f";
-    assert_eq!(query, bytes(full));
-    // The two other fingerprints there: of the first item, and of the second and third.
-    let first = table.fingerprint(&at(0, &[]), &at(5, &[2])).unwrap();
-    assert_eq!(first.to_vec(), bytes("2e255099d6d6bee307c8e7075acc78f9"));
-    let others = table.fingerprint(&at(5, &[2]), &INFINITY).unwrap();
-    assert_eq!(others.to_vec(), bytes("d27c48779563ae9b8f7bfc1ba05462c8"));
+fn e4_and_e5_first_queries() {
+    for table in [e4_table(), e5_table()] {
+        let f = table.fingerprint(&at(0, &[]), &at(5, &[2])).unwrap();
+        let g = table.fingerprint(&at(5, &[2]), &INFINITY).unwrap();
+        let query = opened(&table, 2, 2);
+        assert_eq!(query, joined(&[&bytes("61 06 01 02 01"), &f, &bytes("00 00 01"), &g]));
+        assert_eq!(query.len(), 40);
+        // The bytes in full.
+        assert_eq!(query, bytes(&format!("61 06 01 02 01 {ID_1} 00 00 01 {IDS_2_3}")));
+    }
 }
 
+/// By the former rule the parts held 2 and 1 items, so that the bound was the one before the third.
 #[test]
-fn e5_first_query() {
-    let table = e5_table();
-    let f = table.fingerprint(&at(0, &[]), &at(5, &[3])).unwrap();
-    let g = table.fingerprint(&at(5, &[3]), &INFINITY).unwrap();
-    let query = opened(&table, 2, 2);
-    assert_eq!(query, joined(&[&bytes("61 06 01 03 01"), &f, &bytes("00 00 01"), &g]));
+fn e4_and_e5_by_the_former_rule() {
+    let query = opened_by_former_rule(&e4_table(), 2, 2);
+    assert_eq!(query, bytes(&format!("61 08 00 01 {IDS_1_2} 00 00 01 {ID_3}")));
+    assert_eq!(query.len(), 39);
+    let query = opened_by_former_rule(&e5_table(), 2, 2);
+    assert_eq!(query, bytes(&format!("61 06 01 03 01 {IDS_1_2} 00 00 01 {ID_3}")));
     assert_eq!(query.len(), 40);
 }
 
-#[test]
-fn e6_parts() {
+/// Seven items with the times 10 to 70 in three parts, the second and the third of them from these times on: their
+/// opening, and an answer to another fingerprint of all.
+fn seven_in_three(odd: Odd, second: u64, third: u64) {
     let items: Vec<_> = (1..8).map(|i| (10 * u64::from(i), id(i))).collect();
     let table = Lent::new(&items);
-    let part = |lower, upper| Payload::Fingerprint(table.fingerprint(&lower, &upper).unwrap());
+    let part = |from, to| Payload::Fingerprint(table.fingerprint(&at(from, &[]), &at(to, &[])).unwrap());
     let expected = [
-        range(40, &[], part(at(10, &[]), at(31, &[]))),
-        range(60, &[], part(at(40, &[]), at(51, &[]))),
-        last(part(at(60, &[]), at(71, &[]))),
+        range(second, &[], part(10, second - 9)),
+        range(third, &[], part(second, third - 9)),
+        last(part(third, 71)),
     ];
-    assert_eq!(read(&opened(&table, 3, 3)).unwrap(), expected);
-    assert_eq!(
-        table.answer(3, 3, &bytes("61 00 00 01 00*16")).unwrap(),
-        spell(&expected)
-    );
+    let (_, query) = Opener::open_by(odd, table.clone(), 3, 3, None);
+    assert_eq!(read(&query).unwrap(), expected);
+    let reply = table.answer_by(odd, 3, 3, None, &bytes("61 00 00 01 00*16"));
+    assert_eq!(reply, Ok(spell(&expected)));
+    if odd == Odd::ToLast {
+        assert_eq!(opened(&table, 3, 3), query);
+        assert_eq!(table.answer(3, 3, &bytes("61 00 00 01 00*16")), reply);
+    }
+}
+
+/// 2, 2 and 3 items; by the former rule 3, 2 and 2.
+#[test]
+fn e6_parts() {
+    seven_in_three(Odd::ToLast, 30, 50);
+    seven_in_three(Odd::ToFirst, 40, 60);
+}
+
+/// Five items of times 100 to 500 were cut into 3 and 2, and the other end has 89 below them. It cuts the range below
+/// 400, of 92 items, into 46 and 46, and the opener cuts its own three there: by the new rule into 1 and 2.
+#[test]
+fn an_opening_by_the_former_rule_is_carried_on() {
+    let ours: Vec<_> = (1..6).map(|i| (100 * u64::from(i), id(i))).collect();
+    let below = (1..90).map(|i| (u64::from(i), id(100 + i)));
+    let theirs = Lent::new(&below.chain(ours.iter().copied()).collect::<Vec<_>>());
+    let (opener, query) = Opener::open_by(Odd::ToFirst, Lent::new(&ours), 2, 2, None);
+    assert_eq!(query[..5], bytes("61 83 11 00 01"));
+    let reply = theirs.answer(2, 2, &query).unwrap();
+    assert_eq!(theirs.answer_by(Odd::ToFirst, 2, 2, None, &query), Ok(reply.clone()));
+    // Up to 47, 200 and 400; by the former rule up to 47, 300 and 400.
+    let last = format!("61 30 00 02 00 81 1A 00 01 {ID_1} 81 49 00 01 {IDS_2_3}");
+    let first = format!("61 30 00 02 00 81 7E 00 01 {IDS_1_2} 65 00 01 {ID_3}");
+    for (odd, next) in [(Odd::ToLast, last), (Odd::ToFirst, first)] {
+        let mut opener = Opener { odd, ..opener.clone() };
+        let mut query = opener.take(&reply, 0, 100).unwrap();
+        assert_eq!(query, bytes(&next));
+        // L is 2, so two takes more end the session, whatever they cut by.
+        for done in [false, true] {
+            opener.odd = Odd::ToLast;
+            let reply = theirs.answer(2, 2, &query).unwrap();
+            query = opener.take(&reply, 89, 1_000).unwrap();
+            assert_eq!(opener.session.done, done);
+        }
+        assert_eq!((opener.session.marked, opener.session.needed), (0, 89));
+    }
 }
 
 #[test]
@@ -237,7 +285,7 @@ fn fingerprints_in_a_query() {
 fn last_bound_as_spelled() {
     let reply = e5_table().answer(2, 2, &bytes("61 06 03 09 00 00 01 AA*16")).unwrap();
     let uppers: Vec<_> = read(&reply).unwrap().into_iter().map(|range| range.upper).collect();
-    assert_eq!(uppers[0], range(5, &[3], Payload::Skip).upper);
+    assert_eq!(uppers[0], range(5, &[2], Payload::Skip).upper);
     assert_eq!(uppers[1], range(5, &[9, 0, 0], Payload::Skip).upper);
     assert_eq!(uppers.len(), 2);
 }

@@ -240,8 +240,8 @@ fn open_pairs_of_faults() {
         |call| call.marks.truncate(2),
         |call| call.needed.truncate(31),
     ];
-    // The query of this table is E4's, 39 bytes.
-    let room: [Fault; 2] = [|call| call.out.truncate(38), |call| call.out.clear()];
+    // The query of this table is E4's, 40 bytes.
+    let room: [Fault; 2] = [|call| call.out.truncate(39), |call| call.out.clear()];
     let faults = [
         (1, single(1)),
         (2, single(2)),
@@ -272,10 +272,10 @@ fn open_judges_no_contents() {
     let mut call = Call::good();
     call.marks = vec![9, 1, 255];
     call.needed = [id(3), id(2)].concat();
-    call.out.truncate(39);
+    call.out.truncate(40);
     let before = call.clone();
     let sent = call.open().unwrap();
-    assert_eq!(sent.length, 39);
+    assert_eq!(sent.length, 40);
     assert_eq!(
         sent.session,
         Session {

@@ -1,7 +1,7 @@
 //! Whole sessions of two ends: demand 3.
 
 use crate::support::{given, id, Lent, Random, Seed};
-use reference::{read, Bound, Payload, Session};
+use reference::{read, Bound, Odd, Payload, Session};
 use std::cmp::Ordering;
 use std::collections::BTreeSet;
 
@@ -16,6 +16,8 @@ pub struct Opener {
     pub t: usize,
     /// The byte limit of the next take.
     pub bytes: Option<usize>,
+    /// What the next take cuts by.
+    pub odd: Odd,
     pub session: Session,
     pub marks: Vec<u8>,
     pub needed: Vec<Id>,
@@ -29,10 +31,15 @@ impl Opener {
 
     /// The same with a byte limit, or none.
     pub fn open_within(table: Lent, b: usize, t: usize, bytes: Option<usize>) -> (Opener, Vec<u8>) {
+        Opener::open_by(Odd::ToLast, table, b, t, bytes)
+    }
+
+    /// The same by either rule.
+    pub fn open_by(odd: Odd, table: Lent, b: usize, t: usize, bytes: Option<usize>) -> (Opener, Vec<u8>) {
         let mut marks = vec![0xbb; table.times.len()];
         let mut out = vec![0xcc; 100_000];
         let Lent { times, ids } = &table;
-        let sent = reference::open_within(times, ids, b, t, bytes, &mut marks, &[0xdd; 64], &mut out).unwrap();
+        let sent = reference::open_by(odd, times, ids, b, t, bytes, &mut marks, &[0xdd; 64], &mut out).unwrap();
         assert_eq!(
             sent.session,
             Session {
@@ -50,6 +57,7 @@ impl Opener {
                 b,
                 t,
                 bytes,
+                odd,
                 session: sent.session,
                 marks,
                 needed: vec![],
@@ -67,9 +75,15 @@ impl Opener {
         let mut out = vec![0xcc; out_room];
         let Lent { times, ids } = &self.table;
         let Opener {
-            b, t, bytes, session, ..
+            b,
+            t,
+            bytes,
+            odd,
+            session,
+            ..
         } = *self;
-        match reference::take_within(
+        match reference::take_by(
+            odd,
             times,
             ids,
             b,
@@ -131,9 +145,9 @@ fn ids(items: &[Item]) -> BTreeSet<Id> {
 }
 
 impl Ends {
-    fn answer(&self, bytes: Option<usize>, query: &[u8]) -> Vec<u8> {
+    fn answer(&self, odd: Odd, bytes: Option<usize>, query: &[u8]) -> Vec<u8> {
         Lent::new(&self.theirs)
-            .answer_within(self.their_b, self.their_t, bytes, query)
+            .answer_by(odd, self.their_b, self.their_t, bytes, query)
             .unwrap()
     }
 
@@ -218,6 +232,8 @@ struct Takes {
     sent: Vec<Query>,
     /// The byte limits of the calls, of both ends; each call has one of them at random.
     limits: Vec<Option<usize>>,
+    /// What the calls cut by; each by one of them at random.
+    rules: Vec<Odd>,
     random: Random,
     /// Unrefused takes in a row, each handed the answer to the query last sent, both whole.
     row: usize,
@@ -225,6 +241,8 @@ struct Takes {
     unrefused: usize,
     /// Queries and answers that were cut short.
     short: [usize; 2],
+    /// Queries and answers that the other rule would not have made.
+    by_rule: [usize; 2],
     refused: [usize; 13],
 }
 
@@ -234,21 +252,28 @@ impl Takes {
     }
 
     fn within(ends: Ends, b: usize, t: usize, limits: Vec<Option<usize>>) -> Takes {
+        Takes::by(ends, b, t, limits, vec![Odd::ToLast])
+    }
+
+    fn by(ends: Ends, b: usize, t: usize, limits: Vec<Option<usize>>, rules: Vec<Odd>) -> Takes {
         let mut random = Random(0);
         let bytes = limits[random.below(limits.len())];
-        let (opener, query) = Opener::open_within(Lent::new(&ends.ours), b, t, bytes);
-        let whole = query == Opener::open(Lent::new(&ends.ours), b, t).1;
+        let odd = rules[random.below(rules.len())];
+        let (opener, query) = Opener::open_by(odd, Lent::new(&ends.ours), b, t, bytes);
+        let whole = query == Opener::open_by(odd, Lent::new(&ends.ours), b, t, None).1;
         assert!(bytes.map_or(true, |limit| query.len() <= limit));
         Takes {
             ends,
             opener,
             sent: vec![Query { bytes: query, whole }],
             limits,
+            rules,
             random,
             row: 0,
             excused: BTreeSet::new(),
             unrefused: 0,
             short: [usize::from(!whole), 0],
+            by_rule: [0; 2],
             refused: [0; 13],
         }
     }
@@ -257,30 +282,46 @@ impl Takes {
         self.limits[self.random.below(self.limits.len())]
     }
 
+    fn rule_by_chance(&mut self) -> Odd {
+        self.rules[self.random.below(self.rules.len())]
+    }
+
     /// An answer, and whether it is whole.
     fn answer(&mut self, query: &[u8]) -> (Vec<u8>, bool) {
-        let limit = self.limit_by_chance();
-        let answer = self.ends.answer(limit, query);
+        let (limit, odd) = (self.limit_by_chance(), self.rule_by_chance());
+        let answer = self.ends.answer(odd, limit, query);
         assert!(limit.map_or(true, |limit| answer.len() <= limit));
-        let whole = answer == self.ends.answer(None, query);
+        let whole = answer == self.ends.answer(odd, None, query);
         self.short[1] += usize::from(!whole);
+        self.by_rule[1] += usize::from(answer != self.ends.answer(other(odd), limit, query));
         (answer, whole)
+    }
+
+    /// What a take by this rule and with this limit leaves, and its query.
+    fn taken(&self, answer: &[u8], odd: Odd, bytes: Option<usize>) -> (Opener, Vec<u8>) {
+        let mut opener = Opener {
+            odd,
+            bytes,
+            ..self.opener.clone()
+        };
+        let query = opener.take(answer, self.ends.theirs.len(), 100_000).unwrap();
+        assert!(bytes.map_or(true, |limit| query.len() <= limit));
+        (opener, query)
     }
 
     /// The next query of an unrefused take, empty if done, and whether it is whole.
     fn next(&mut self, answer: &[u8]) -> Query {
-        let room = self.ends.theirs.len();
-        let mut without = self.opener.clone();
-        without.bytes = None;
-        let expected = without.take(answer, room, 100_000).unwrap();
-        self.opener.bytes = self.limit_by_chance();
-        let bytes = self.opener.take(answer, room, 100_000).unwrap();
-        assert!(self.opener.bytes.map_or(true, |limit| bytes.len() <= limit));
-        // A limit changes the message alone.
+        let (limit, odd) = (self.limit_by_chance(), self.rule_by_chance());
+        let (opener, bytes) = self.taken(answer, odd, limit);
+        let (without, expected) = self.taken(answer, odd, None);
+        let (by_other, otherwise) = self.taken(answer, other(odd), limit);
+        // A limit and the rule change the message alone.
         let reported = |opener: &Opener| (opener.session, opener.marks.clone(), opener.needed.clone());
-        assert!(reported(&self.opener) == reported(&without));
+        assert!(reported(&opener) == reported(&without) && reported(&opener) == reported(&by_other));
         let whole = bytes == expected;
         self.short[0] += usize::from(!whole);
+        self.by_rule[0] += usize::from(bytes != otherwise);
+        self.opener = opener;
         Query { bytes, whole }
     }
 
@@ -318,7 +359,8 @@ impl Takes {
 
     /// A take that is refused; if the inputs chosen don't make it so, none.
     fn refused(&mut self, random: &mut Random) {
-        let mut answer = self.ends.answer(None, &self.sent[random.below(self.sent.len())].bytes);
+        let query = &self.sent[random.below(self.sent.len())].bytes;
+        let mut answer = self.ends.answer(Odd::ToLast, None, query);
         let mut ids_room = self.ends.theirs.len();
         let mut out_room = 100_000;
         let mut copy = self.opener.clone();
@@ -366,6 +408,13 @@ impl Takes {
         }
         assert_eq!(self.opener.take(&[0x61], self.ends.theirs.len(), 0), Err(5));
         self.ends.check_complete(&self.opener, &self.excused);
+    }
+}
+
+fn other(odd: Odd) -> Odd {
+    match odd {
+        Odd::ToFirst => Odd::ToLast,
+        Odd::ToLast => Odd::ToFirst,
     }
 }
 
@@ -485,11 +534,44 @@ fn random_sessions_within_limits() {
     assert!(short.iter().all(|&count| count > 60), "{short:?}");
 }
 
-/// Ids 1 and 4 against 2 and 3 have equal sums and counts: done at once, nothing reported.
+/// Each call of either end cuts by either rule, in any mix, with limits and without.
+#[test]
+fn random_sessions_of_either_rule() {
+    let (first, last) = (Odd::ToFirst, Odd::ToLast);
+    let rules = [vec![first], vec![first, last], vec![first, last, last, last]];
+    let mut by_rule = [0; 2];
+    let mut full_rows = 0;
+    for seed in 0..1200 {
+        let _seed = Seed(seed);
+        let mut random = Random(seed);
+        let limited = seed % 40 == 0;
+        let mut ends = ends_of(&mut random, if limited { 1_200 } else { 120 }, false);
+        if seed % 2 == 0 {
+            // Where the other end has many more items, it lists few, and takes go on as long as they can.
+            ends.ours.retain(|_| random.one_in(4));
+        }
+        let b = 2 + random.below(3);
+        let t = b + random.below(2);
+        let limits = if limited { vec![Some(4_096), None] } else { vec![None] };
+        let mut session = Takes::by(ends, b, t, limits, rules[seed as usize % rules.len()].clone());
+        session.random = Random(seed);
+        session.run(&mut random);
+        assert!(session.excused.is_empty());
+        full_rows += usize::from(session.row == session.limit() && session.row > 2);
+        by_rule
+            .iter_mut()
+            .zip(session.by_rule)
+            .for_each(|(sum, count)| *sum += count);
+    }
+    assert!(by_rule.iter().all(|&count| count > 500), "{by_rule:?}");
+    assert!(full_rows > 10, "{full_rows}");
+}
+
+/// Ids 1 and 4 against 2 and 3 have equal sums and counts: done at once, nothing reported. They are the second part.
 #[test]
 fn colliding_ranges_hide() {
-    let ours = vec![(5, id(1)), (5, id(4)), (8, id(9))];
-    let theirs = vec![(5, id(2)), (5, id(3)), (8, id(9))];
+    let ours = vec![(4, id(9)), (5, id(1)), (5, id(4))];
+    let theirs = vec![(4, id(9)), (5, id(2)), (5, id(3))];
     let mut session = Takes::new(
         Ends {
             ours,
@@ -512,7 +594,7 @@ fn colliding_ranges_hide() {
     assert_eq!(session.excused, [id(1), id(2), id(3), id(4)].into_iter().collect());
 }
 
-/// Five items with b = t = 2 can need three takes.
+/// Five items with b = t = 2 can need three takes: the larger part is the last one, and has to differ.
 #[test]
 fn d1_three_takes() {
     assert_eq!(
@@ -520,8 +602,8 @@ fn d1_three_takes() {
         [0, 0, 0, 1, 1, 2, 2, 3]
     );
     let ours: Vec<Item> = (1..6).map(|i| (100 * i, id(i as u8))).collect();
-    let below = (1..90).map(|time| (time, id(100 + time as u8)));
-    let theirs = below.chain(ours.iter().copied()).collect();
+    let above = (501..590).map(|time| (time, id((time - 400) as u8)));
+    let theirs = ours.iter().copied().chain(above).collect();
     let mut session = Takes::new(
         Ends {
             ours,

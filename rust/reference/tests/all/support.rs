@@ -1,6 +1,6 @@
 //! Hex, tables and random numbers for the tests.
 
-use reference::{Bound, GivenBound, Payload, Range};
+use reference::{Bound, GivenBound, Odd, Payload, Range};
 
 /// Bytes from hex words; `80*8` is a word so many times over.
 pub fn bytes(text: &str) -> Vec<u8> {
@@ -52,8 +52,26 @@ impl Lent {
     }
 
     pub fn answer_within(&self, b: usize, t: usize, bytes: Option<usize>, query: &[u8]) -> Result<Vec<u8>, u8> {
+        self.answered(query, |times, ids, out| {
+            reference::answer_within(times, ids, b, t, bytes, query, out)
+        })
+    }
+
+    /// The same by either rule.
+    pub fn answer_by(&self, odd: Odd, b: usize, t: usize, bytes: Option<usize>, query: &[u8]) -> Result<Vec<u8>, u8> {
+        self.answered(query, |times, ids, out| {
+            reference::answer_by(odd, times, ids, b, t, bytes, query, out)
+        })
+    }
+
+    /// What a call writes that answers a query about this table.
+    fn answered(
+        &self,
+        query: &[u8],
+        answer: impl Fn(&[u64], &[u8], &mut [u8]) -> Result<usize, u8>,
+    ) -> Result<Vec<u8>, u8> {
         let mut out = vec![0xcc; 64 * (self.times.len() + query.len() + 4)];
-        let length = reference::answer_within(&self.times, &self.ids, b, t, bytes, query, &mut out)?;
+        let length = answer(&self.times, &self.ids, &mut out)?;
         assert!(out[length..].iter().all(|&byte| byte == 0xcc));
         out.truncate(length);
         Ok(out)

@@ -1,6 +1,7 @@
 //! The two implementations behind one interface: the library, and the independent reference.
 use crate::raw;
 use recon::{Bound, Committed, Cut, Inquiry, Refusal, RunLabel, Sent, Session, Table};
+use reference::Odd;
 
 #[derive(Clone, Copy, Debug, PartialEq, Eq)]
 pub enum Call {
@@ -94,6 +95,8 @@ impl FoldCall {
 pub struct Lent<'a> {
     pub table: Table<'a>,
     pub cut: Cut,
+    /// Where the odd items of a cut go; the library has the rule of today alone.
+    pub odd: Odd,
     /// The byte limit; none for the calls without one.
     pub bytes: Option<usize>,
     pub message: &'a [u8],
@@ -212,6 +215,7 @@ impl Calls for Library {
     }
 
     fn run(&self, call: Call, lent: &mut Lent<'_>) -> Outcome {
+        assert_eq!(lent.odd, Odd::ToLast, "the library has no former rule");
         safe_call(call, lent).map_err(|refusal| {
             // The safe crate gives the number alone. A refused call changed nothing, so the C call must refuse again.
             let again = raw::run(call, lent);
@@ -339,6 +343,7 @@ impl Calls for Reference {
         let Lent {
             table: Table { times, ids },
             cut: Cut { parts: b, limit: t },
+            odd,
             bytes,
             message,
             session,
@@ -347,10 +352,10 @@ impl Calls for Reference {
         let given = reference_session(session);
         let (marks, needed, out) = (&mut *lent.marks, &mut *lent.needed, &mut *lent.out);
         let result = match call {
-            Call::Open => reference::open_within(times, ids, b, t, bytes, marks, needed, out),
-            Call::Answer => reference::answer_within(times, ids, b, t, bytes, message, out)
+            Call::Open => reference::open_by(odd, times, ids, b, t, bytes, marks, needed, out),
+            Call::Answer => reference::answer_by(odd, times, ids, b, t, bytes, message, out)
                 .map(|length| reference::Sent { length, session: given }),
-            Call::Take => reference::take_within(times, ids, b, t, bytes, message, given, marks, needed, out),
+            Call::Take => reference::take_by(odd, times, ids, b, t, bytes, message, given, marks, needed, out),
         };
         let kept = if call == Call::Open { NO_SESSION } else { session };
         result.map(sent).map_err(|number| Refused { number, session: kept })

@@ -6,6 +6,7 @@ use crate::input::{After, Input, Regions};
 use crate::show;
 use crate::tree::{check_run, TreeAfter, TreeInput};
 use recon::{Sent, Table};
+use reference::Odd;
 use std::fmt::Debug;
 
 /// A check: what it gives, or what differs.
@@ -50,6 +51,14 @@ pub struct Counts {
     pub full_rows: u64,
     /// Differences that stayed unreported, each inside a compared range with equal fingerprints.
     pub excused: u64,
+    /// Messages by the former rule where the rule of today makes others.
+    pub former: u64,
+    /// Sessions with such messages and calls of the library after them that came to their end.
+    pub carried: u64,
+    /// Those of them that ended with the last reply that the bound allows, both in the takes in a row.
+    pub carried_rows: u64,
+    /// Late or repeated replies to such queries that the library took: made by the former rule, and by the library.
+    pub former_late: [u64; 2],
     /// Commits after sessions, as long as ids were needed.
     pub commits: u64,
     /// Tables that became the union of both by these.
@@ -66,6 +75,11 @@ impl Counts {
         self.late += other.late;
         self.full_rows += other.full_rows;
         self.excused += other.excused;
+        self.former += other.former;
+        self.carried += other.carried;
+        self.carried_rows += other.carried_rows;
+        let late = self.former_late.iter_mut().zip(other.former_late);
+        late.for_each(|(sum, count)| *sum += count);
         self.summed += other.summed;
         self.rebuilt += other.rebuilt;
         self.short += other.short;
@@ -149,8 +163,11 @@ impl<'a> Comparer<'a> {
         }
     }
 
-    /// Makes a call with both implementations; what both answer.
+    /// Makes a call with both implementations; what both answer. One by the former rule is made by the second alone.
     pub fn call(&mut self, input: &Input<'_>) -> Check<After> {
+        if input.odd == Odd::ToFirst {
+            return self.former(input);
+        }
         let ((first, unchanged), (second, _)) = self.both(
             || show::input(input),
             |regions, calls, side| regions.run(calls, input, side),
@@ -167,6 +184,16 @@ impl<'a> Comparer<'a> {
         };
         numbers[input.call as usize][usize::from(first.number())] += 1;
         Ok(first)
+    }
+
+    /// Makes a call by the former rule, which the library does not have: nothing is compared, and nothing counted.
+    fn former(&self, input: &Input<'_>) -> Check<After> {
+        if self.show {
+            print!("{}", show::input(input));
+        }
+        let after = input.run(self.second);
+        check_lent(input, &after, true).map_err(|text| format!("{}: {}", input.name(), text))?;
+        Ok(after)
     }
 
     /// What a call leaves when there is room for all. Asked of the reference alone.

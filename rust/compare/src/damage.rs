@@ -7,6 +7,7 @@ use crate::input::Input;
 use crate::tree::TreeInput;
 use crate::within_trials::{rewrite, Short};
 use recon::{Committed, Inquiry, Sent, Table};
+use reference::Odd;
 
 /// What an undamaged call did, and what was lent to it before.
 pub struct Made<'a, 'b> {
@@ -23,21 +24,31 @@ impl Made<'_, '_> {
         let Lent {
             table,
             cut,
+            odd,
             message,
             session,
             ..
         } = *self.lent;
-        let input = Input::new(self.call, table, cut).with_message(message);
+        let input = Input::new(self.call, table, cut).by(odd).with_message(message);
         let input = input.with_state(session, &self.marks, &self.needed);
         let out = vec![0; input.most_room()];
         input.with_out(&out).run(&Reference).message().to_vec()
     }
 
     /// Puts all buffers back.
-    fn undo(&mut self) {
+    pub fn undo(&mut self) {
         self.lent.marks.copy_from_slice(&self.marks);
         self.lent.needed.copy_from_slice(&self.needed);
         self.lent.out.copy_from_slice(&self.out);
+    }
+
+    /// Writes another message, if there is room.
+    pub fn write(&mut self, sent: &mut Sent, bytes: &[u8]) {
+        if bytes.len() <= self.out.len() {
+            self.lent.out.copy_from_slice(&self.out);
+            self.lent.out[..bytes.len()].copy_from_slice(bytes);
+            sent.length = bytes.len();
+        }
     }
 
     /// Accepts after all, and writes nothing.
@@ -62,6 +73,8 @@ pub enum Damage {
     Lent(fn(&mut Lent<'_>)),
     /// Spoils what a call did that was not refused.
     Sent(Call, fn(&mut Made<'_, '_>, &mut Sent)),
+    /// Spoils what a call by the former rule did that was not refused.
+    Former(fn(&mut Made<'_, '_>, &mut Sent)),
     /// Changes a message that its byte limit cut short.
     Short(fn(&mut Short<'_>)),
     /// Spoils what a refused call left.
@@ -133,6 +146,7 @@ impl Calls for Damaged {
         };
         match (self.0, &mut outcome) {
             (Damage::Sent(of, spoil), Ok(sent)) if of == call => spoil(&mut made, sent),
+            (Damage::Former(spoil), Ok(sent)) if made.lent.odd == Odd::ToFirst => spoil(&mut made, sent),
             (Damage::Short(change), Ok(sent)) => rewrite(&mut made, sent, change),
             (Damage::Refused(spoil), Err(refused)) => spoil(&mut made, refused),
             (Damage::Renumber(from, to), Err(refused)) if refused.number == from => refused.number = to,

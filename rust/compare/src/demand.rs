@@ -113,6 +113,11 @@ impl<'a> Demand<'a> {
         }
     }
 
+    /// Whether the last take stands in a row.
+    pub fn is_in_row(&self) -> bool {
+        self.row > 0
+    }
+
     /// Whether the session took L + 1 replies in a row.
     pub fn row_is_full(&self) -> bool {
         self.row == self.rounds + 1

@@ -1,11 +1,12 @@
 //! A session between two tables, with every call compared and demand 3 checked after every take.
 use crate::calls::Call;
-use crate::compare::Check;
+use crate::compare::{Check, Counts};
 use crate::demand::{Demand, Reports, Taken};
 use crate::generate::OwnedTable;
 use crate::input::{After, Input, NEW_SESSION};
 use crate::kinds::Case;
 use recon::{Cut, Sent, Session};
+use reference::Odd;
 use std::collections::BTreeMap;
 
 /// A table with its cut.
@@ -45,11 +46,32 @@ impl Ends {
     }
 }
 
-/// A message that was sent, and whether no byte limit cut it short.
+/// A message that was written.
 #[derive(Clone)]
-struct Message {
+pub struct Message {
     bytes: Vec<u8>,
+    /// No byte limit cut it short.
     whole: bool,
+    /// What its call cut by: a call by the rule of today is one of the library.
+    odd: Odd,
+    /// It is one by the former rule where the rule of today makes another.
+    former: bool,
+}
+
+/// Whether takes have a message by the former rule, and a call of the library after it.
+#[derive(Clone, Copy, Default)]
+struct Carried {
+    former: bool,
+    library: bool,
+}
+
+impl Carried {
+    /// Notes a take of the reply to a query, by a rule.
+    fn note(&mut self, query: &Message, reply: &Message, odd: Odd) {
+        self.library |= query.former && reply.odd == Odd::ToLast;
+        self.former |= query.former || reply.former;
+        self.library |= self.former && odd == Odd::ToLast;
+    }
 }
 
 /// The state of both ends in a session: what the opener holds, and the queries sent so far with their answers.
@@ -58,16 +80,21 @@ pub struct Exchange<'a> {
     pub responder: End<'a>,
     /// The byte limits of the next take and of the next answer.
     pub limits: [Option<usize>; 2],
+    /// What they cut by.
+    pub rules: [Odd; 2],
     pub session: Session,
     pub marks: Vec<u8>,
     /// The needed list, without room behind it.
     pub list: Vec<u8>,
     queries: Vec<Message>,
-    /// By query and byte limit.
-    answers: BTreeMap<(usize, Option<usize>), Message>,
+    /// By query, byte limit and rule.
+    answers: BTreeMap<(usize, Option<usize>, Odd), Message>,
     demand: Demand<'a>,
     /// A message that was taken or sent was cut short.
     short: bool,
+    /// Of all takes, and of those in a row up to now.
+    carried: Carried,
+    carried_row: Carried,
 }
 
 impl<'a> Exchange<'a> {
@@ -78,27 +105,39 @@ impl<'a> Exchange<'a> {
 
     /// The same with byte limits, the first of them that of the opening.
     pub fn open_within(case: &mut Case<'_, '_>, ends: &'a Ends, limits: [Option<usize>; 2]) -> Check<Exchange<'a>> {
+        Exchange::open_by(case, ends, limits, [Odd::ToLast; 2])
+    }
+
+    /// The same by either rule, the first of them that of the opening.
+    pub fn open_by(
+        case: &mut Case<'_, '_>,
+        ends: &'a Ends,
+        limits: [Option<usize>; 2],
+        rules: [Odd; 2],
+    ) -> Check<Exchange<'a>> {
         let (opener, responder) = (ends.opener(), ends.responder());
         let marks = case.rng.bytes(opener.table.count());
         let whole_ids = 32 * case.rng.below(3);
         let needed = case.rng.bytes(whole_ids);
-        let input = opener.input(Call::Open).within(limits[0]);
-        let (after, sent, whole) = with_room(case, &input.with_state(NEW_SESSION, &marks, &needed))?;
+        let input = opener.input(Call::Open).by(rules[0]).within(limits[0]);
+        let (after, sent, query) = with_room(case, &input.with_state(NEW_SESSION, &marks, &needed))?;
         if after.marks.iter().any(|&mark| mark != 0) || sent.session != NEW_SESSION {
             return Err("the opening leaves marks or another session than a new one".to_string());
         }
-        let bytes = after.message().to_vec();
         Ok(Exchange {
             opener,
             responder,
             limits,
+            rules,
             session: sent.session,
-            queries: vec![Message { bytes, whole }],
             answers: BTreeMap::new(),
             marks: after.marks,
             list: Vec::new(),
             demand: Demand::new(opener.table, responder.table, opener.cut),
-            short: !whole,
+            short: !query.whole,
+            queries: vec![query],
+            carried: Carried::default(),
+            carried_row: Carried::default(),
         })
     }
 
@@ -117,21 +156,19 @@ impl<'a> Exchange<'a> {
     }
 
     fn reply(&mut self, case: &mut Case<'_, '_>, query: usize) -> Check<Message> {
-        let limit = self.limits[1];
-        if let Some(answer) = self.answers.get(&(query, limit)) {
+        let (limit, odd) = (self.limits[1], self.rules[1]);
+        if let Some(answer) = self.answers.get(&(query, limit, odd)) {
             return Ok(answer.clone());
         }
-        let input = self.responder.input(Call::Answer).within(limit);
-        let (after, _, whole) = with_room(case, &input.with_message(self.query(query)))?;
-        let bytes = after.message().to_vec();
-        let answer = Message { bytes, whole };
-        self.answers.insert((query, limit), answer.clone());
+        let input = self.responder.input(Call::Answer).by(odd).within(limit);
+        let (_, _, answer) = with_room(case, &input.with_message(self.query(query)))?;
+        self.answers.insert((query, limit, odd), answer.clone());
         Ok(answer)
     }
 
     /// A take of a reply in this state; its out buffer is empty, and the needed buffer has the list alone.
     pub fn take_input<'b>(&'b self, reply: &'b [u8]) -> Input<'b> {
-        let input = self.opener.input(Call::Take).within(self.limits[0]);
+        let input = self.opener.input(Call::Take).by(self.rules[0]).within(self.limits[0]);
         input
             .with_message(reply)
             .with_state(self.session, &self.marks, &self.list)
@@ -140,11 +177,11 @@ impl<'a> Exchange<'a> {
     /// Takes the answer to a query sent, with room of any size that is enough, and checks what is owed then.
     pub fn take(&mut self, case: &mut Case<'_, '_>, query: usize) -> Check {
         let reply = self.reply(case, query)?;
-        let (after, Sent { session, .. }, whole) = with_room(case, &self.take_input(&reply.bytes))?;
+        let (after, Sent { session, .. }, next) = with_room(case, &self.take_input(&reply.bytes))?;
         self.session = session;
         self.list = after.needed[..32 * session.needed].to_vec();
         self.marks.copy_from_slice(&after.marks);
-        self.short |= !reply.whole || !whole;
+        self.short |= !reply.whole || !next.whole;
         let taken = Taken {
             query: &self.queries[query].bytes,
             reply: &reply.bytes,
@@ -156,20 +193,39 @@ impl<'a> Exchange<'a> {
             needed: &self.list,
             done: session.done,
         };
+        let is_late = taken.query != taken.last_sent;
         let excused = self.demand.after_take(&taken, reports)?;
         let counts = &mut case.comparer.counts;
-        counts.takes += 1;
-        counts.late += u64::from(taken.query != taken.last_sent);
         counts.excused += excused as u64;
-        if session.done {
-            counts.sessions += 1;
-            counts.full_rows += u64::from(self.demand.row_is_full());
-            counts.short_sessions += u64::from(self.short);
-        } else {
-            let bytes = after.message().to_vec();
-            self.queries.push(Message { bytes, whole });
+        self.count(counts, query, &reply, is_late);
+        if !session.done {
+            self.queries.push(next);
         }
         Ok(())
+    }
+
+    /// Counts a take of the reply to a query, and the session if it is done.
+    fn count(&mut self, counts: &mut Counts, query: usize, reply: &Message, is_late: bool) {
+        let (query, odd) = (&self.queries[query], self.rules[0]);
+        counts.takes += 1;
+        counts.late += u64::from(is_late);
+        if is_late && query.former && odd == Odd::ToLast {
+            counts.former_late[usize::from(reply.odd == Odd::ToLast)] += 1;
+        }
+        self.carried.note(query, reply, odd);
+        if self.demand.is_in_row() {
+            self.carried_row.note(query, reply, odd);
+        } else {
+            self.carried_row = Carried::default();
+        }
+        if self.session.done {
+            let is_full = self.demand.row_is_full();
+            counts.sessions += 1;
+            counts.full_rows += u64::from(is_full);
+            counts.short_sessions += u64::from(self.short);
+            counts.carried += u64::from(self.carried.library);
+            counts.carried_rows += u64::from(is_full && self.carried_row.library);
+        }
     }
 
     pub fn last_query(&self) -> usize {
@@ -185,8 +241,8 @@ impl<'a> Exchange<'a> {
     }
 }
 
-/// Makes a lawful call with room that is exact or more, any bytes in it. The flag says whether its message is whole.
-pub fn with_room(case: &mut Case<'_, '_>, input: &Input<'_>) -> Check<(After, Sent, bool)> {
+/// Makes a lawful call with room that is exact or more, any bytes in it; and its message.
+pub fn with_room(case: &mut Case<'_, '_>, input: &Input<'_>) -> Check<(After, Sent, Message)> {
     let (length, count) = case.room(input)?;
     let out_room = length + case.rng.pick(&[0, 0, 1, 50]);
     let out = case.rng.bytes(out_room);
@@ -196,9 +252,14 @@ pub fn with_room(case: &mut Case<'_, '_>, input: &Input<'_>) -> Check<(After, Se
         needed.extend(case.rng.bytes(room.saturating_sub(input.needed.len())));
     }
     let after = case.comparer.call(&input.with_needed(&needed).with_out(&out))?;
-    let whole = case.check_short(input, after.message())?;
+    let message = Message {
+        bytes: after.message().to_vec(),
+        whole: case.check_short(input, after.message())?,
+        odd: input.odd,
+        former: case.is_former(input, after.message()),
+    };
     match after.outcome {
-        Ok(sent) => Ok((after, sent, whole)),
+        Ok(sent) => Ok((after, sent, message)),
         Err(refused) => Err(format!("a lawful call is refused by {}", refused.number)),
     }
 }

@@ -6,6 +6,7 @@ use crate::generate::{from_text, OwnedTable};
 use crate::input::Input;
 use crate::kinds::expect_number;
 use recon::{Cut, Session, MAX_ITEMS};
+use reference::Odd;
 use std::mem::swap;
 use std::rc::Rc;
 
@@ -56,6 +57,7 @@ pub struct Draft {
     pub call: Call,
     pub table: Rc<OwnedTable>,
     pub cut: Cut,
+    pub odd: Odd,
     pub bytes: Option<usize>,
     pub message: Vec<u8>,
     pub session: Session,
@@ -79,6 +81,7 @@ impl Draft {
             call: input.call,
             table: Rc::new(OwnedTable { times, ids }),
             cut: input.cut,
+            odd: input.odd,
             bytes: input.bytes,
             message: input.message.to_vec(),
             session: input.session,
@@ -90,6 +93,7 @@ impl Draft {
 
     pub fn input(&self) -> Input<'_> {
         Input::new(self.call, self.table.lent(), self.cut)
+            .by(self.odd)
             .within(self.bytes)
             .with_message(&self.message)
             .with_state(self.session, &self.marks, &self.needed)

@@ -4,6 +4,7 @@ use crate::fold::{FoldAfter, FoldInput};
 use crate::guard::{Region, Side, ROOM};
 use crate::tree::{TreeAfter, TreeInput};
 use recon::{Cut, Session, Table};
+use reference::Odd;
 
 /// The session that an opening leaves.
 pub const NEW_SESSION: Session = Session {
@@ -18,6 +19,7 @@ pub struct Input<'a> {
     pub call: Call,
     pub table: Table<'a>,
     pub cut: Cut,
+    pub odd: Odd,
     pub bytes: Option<usize>,
     pub message: &'a [u8],
     pub session: Session,
@@ -47,12 +49,13 @@ impl After {
 }
 
 impl<'a> Input<'a> {
-    /// A call about a table with a new session, without byte limit, message and buffers.
+    /// A call by the rule of today about a table with a new session, without byte limit, message and buffers.
     pub fn new(call: Call, table: Table<'a>, cut: Cut) -> Input<'a> {
         Input {
             call,
             table,
             cut,
+            odd: Odd::ToLast,
             bytes: None,
             message: &[],
             session: NEW_SESSION,
@@ -60,6 +63,11 @@ impl<'a> Input<'a> {
             needed: &[],
             out: &[],
         }
+    }
+
+    /// The call by this rule.
+    pub fn by(self, odd: Odd) -> Input<'a> {
+        Input { odd, ..self }
     }
 
     /// The call with this byte limit, or none.
@@ -107,6 +115,7 @@ impl<'a> Input<'a> {
         Lent {
             table: self.table,
             cut: self.cut,
+            odd: self.odd,
             bytes: self.bytes,
             message: self.message,
             session: self.session,

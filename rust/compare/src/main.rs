@@ -9,6 +9,7 @@
 //! ```
 //! Exits with 0 if nothing differs, with 1 at the first difference, and with 2 if the arguments are wrong.
 mod calls;
+mod carried_trials;
 mod compare;
 mod damage;
 mod demand;
@@ -25,6 +26,7 @@ mod kinds;
 mod raw;
 mod rng;
 mod run;
+mod schedule;
 mod self_check;
 mod short;
 mod show;

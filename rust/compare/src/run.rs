@@ -153,6 +153,17 @@ fn print_totals(totals: &Counts) {
         "{} messages cut short by a byte limit, {} of them inside a list; {} sessions with such messages done",
         totals.short, totals.short_lists, totals.short_sessions
     );
+    let [by_former_rule, by_library] = totals.former_late;
+    println!(
+        "{} messages by the former rule that are others today; {} sessions with such messages and calls of the library \
+         after them done, {} of them with the last reply that L allows; {} late replies to such queries taken by the \
+         library, {} of them its own",
+        totals.former,
+        totals.carried,
+        totals.carried_rows,
+        by_former_rule + by_library,
+        by_library
+    );
     println!(
         "{} runs of trees with the label summed item by item; {} appends with the tree built afresh",
         totals.summed, totals.rebuilt
@@ -180,6 +191,11 @@ fn all_came_up(totals: &Counts) -> bool {
         totals.short,
         totals.short_lists,
         totals.short_sessions,
+        totals.former,
+        totals.carried,
+        totals.carried_rows,
+        totals.former_late[0],
+        totals.former_late[1],
         totals.commits,
         totals.unions,
     ];

@@ -4,6 +4,7 @@ use crate::fold::FoldInput;
 use crate::input::Input;
 use crate::tree::TreeInput;
 use recon::Table;
+use reference::Odd;
 use std::fmt::Write;
 
 pub fn hex(bytes: &[u8]) -> String {
@@ -35,6 +36,9 @@ fn table(table: Table<'_>) -> String {
 pub fn input(input: &Input<'_>) -> String {
     let mut text = format!("{}\n{}", input.name(), table(input.table));
     text += &format!("  parts {}, limit {}\n", input.cut.parts, input.cut.limit);
+    if input.odd == Odd::ToFirst {
+        text += "  by the former rule, which the library does not have\n";
+    }
     if let Some(bytes) = input.bytes {
         text += &format!("  byte limit {}\n", bytes);
     }

@@ -1,5 +1,6 @@
 //! The damages of the self-check, each with the kind of cases that has to find it.
 use crate::calls::{Call, Outcome};
+use crate::carried_trials;
 use crate::damage::{Damage, Made};
 use crate::fold_trials;
 use crate::guard::Side;
@@ -63,6 +64,7 @@ pub fn one_sided() -> Vec<Trial> {
         wrong_hashes(),
         tree_trials::one_sided(),
         within_trials::one_sided(),
+        carried_trials::one_sided(),
         fold_trials::one_sided(),
     ];
     lists.into_iter().flatten().chain(renumbered).collect()
@@ -323,6 +325,7 @@ pub fn both_sided() -> Vec<Trial> {
     let mut trials = wrong_reports();
     trials.extend(tree_trials::both_sided());
     trials.extend(within_trials::both_sided());
+    trials.extend(carried_trials::both_sided());
     trials.extend(fold_trials::both_sided());
     trials.extend([
         trial("examples", "differ at 0", "open writes another version", open(|made, _| flip(made.lent.out, 0))),
@@ -365,7 +368,7 @@ pub fn say_done(made: &mut Made<'_, '_>, sent: &mut Sent) {
     sent.session.done = true;
 }
 
-fn never_say_done(made: &mut Made<'_, '_>, sent: &mut Sent) {
+pub fn never_say_done(made: &mut Made<'_, '_>, sent: &mut Sent) {
     if sent.session.done && !made.out.is_empty() {
         made.lent.out[0] = 0x61;
         sent.length = 1;
@@ -373,12 +376,12 @@ fn never_say_done(made: &mut Made<'_, '_>, sent: &mut Sent) {
     }
 }
 
-fn say_nothing(made: &mut Made<'_, '_>, sent: &mut Sent) {
+pub fn say_nothing(made: &mut Made<'_, '_>, sent: &mut Sent) {
     made.lent.out[1..].copy_from_slice(&made.out[1..]);
     sent.length = 1;
 }
 
-fn mark_more(made: &mut Made<'_, '_>, sent: &mut Sent) {
+pub fn mark_more(made: &mut Made<'_, '_>, sent: &mut Sent) {
     if let Some(mark) = made.lent.marks.iter_mut().find(|mark| **mark == 0) {
         *mark = 1;
         sent.session.marked += 1;
@@ -396,11 +399,16 @@ fn drop_needed(made: &mut Made<'_, '_>, sent: &mut Sent) {
 fn keep_first(made: &mut Made<'_, '_>, sent: &mut Sent) {
     let before = made.lent.session;
     if before.marked + before.needed > 0 {
-        made.lent.marks.copy_from_slice(&made.marks);
-        made.lent.needed.copy_from_slice(&made.needed);
-        sent.session.marked = before.marked;
-        sent.session.needed = before.needed;
+        drop_reports(made, sent);
     }
+}
+
+/// Puts back marks and needed list.
+pub fn drop_reports(made: &mut Made<'_, '_>, sent: &mut Sent) {
+    let before = made.lent.session;
+    made.lent.marks.copy_from_slice(&made.marks);
+    made.lent.needed.copy_from_slice(&made.needed);
+    (sent.session.marked, sent.session.needed) = (before.marked, before.needed);
 }
 
 /// A damage that touches memory beyond a buffer, in the first case of a kind.

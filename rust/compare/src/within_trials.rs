@@ -3,7 +3,7 @@ use crate::calls::{Call, Calls, Reference};
 use crate::damage::{Damage, Made};
 use crate::generate::{id_from, true_fingerprint, whole_ids, Item};
 use crate::short::shortest_prefix;
-use crate::trials::{is_refused_by, say_done, trial, Trial};
+use crate::trials::{drop_reports, is_refused_by, say_done, trial, Trial};
 use recon::{Sent, Table};
 use reference::{Bound, Payload, Range};
 use std::cmp::Ordering;
@@ -24,7 +24,7 @@ enum Last {
     NoRange,
 }
 
-const START: Bound = Bound::At {
+pub const START: Bound = Bound::At {
     time: 0,
     prefix: Vec::new(),
 };
@@ -107,12 +107,7 @@ impl<'a> Short<'a> {
 pub fn rewrite(made: &mut Made<'_, '_>, sent: &mut Sent, change: fn(&mut Short<'_>)) {
     if let Some(mut short) = Short::of(made, sent) {
         change(&mut short);
-        let bytes = short.bytes();
-        if bytes.len() <= made.out.len() {
-            made.lent.out.copy_from_slice(&made.out);
-            made.lent.out[..bytes.len()].copy_from_slice(&bytes);
-            sent.length = bytes.len();
-        }
+        made.write(sent, &short.bytes());
     }
 }
 
@@ -289,17 +284,12 @@ pub fn both_sided() -> Vec<Trial> {
         trial(kind, left, "a skip that does not fit is cut at the time of its bound", Damage::Short(cut_skip)),
         trial(kind, "more than the limit", "a limit is taken for one byte more", one_byte_more()),
         trial(kind, left, "a take whose query is cut short says done", done_where_short()),
-        trial(kind, "is not reported", "a take with a limit drops its reports", Damage::Sent(Call::Take, drop_reports)),
+        trial(kind, "is not reported", "a take with a limit drops its reports", Damage::Sent(Call::Take, |made, sent| {
+            if made.lent.bytes.is_some() {
+                drop_reports(made, sent);
+            }
+        })),
         trial("refusals", "both say", "limit 4095 is accepted", accepts_4095()),
         trial("examples", "more than the limit", "limit 4095 is accepted", accepts_4095()),
     ]
-}
-
-fn drop_reports(made: &mut Made<'_, '_>, sent: &mut Sent) {
-    if made.lent.bytes.is_some() {
-        let before = made.lent.session;
-        made.lent.marks.copy_from_slice(&made.marks);
-        made.lent.needed.copy_from_slice(&made.needed);
-        (sent.session.marked, sent.session.needed) = (before.marked, before.needed);
-    }
 }

@@ -11,11 +11,11 @@ use recon::{Cut, Session};
 
 type Example = fn(&mut Case<'_, '_>) -> Check;
 
-const EXAMPLES: [(&str, Example); 20] = [
+const EXAMPLES: [(&str, Example); 21] = [
     ("E1, varints", varints),
     ("E3, the empty table", empty_table),
-    ("E4, different times", |case| opening(case, [5, 5, 7], "08 00")),
-    ("E5, equal times", |case| opening(case, [5, 5, 5], "06 01 03")),
+    ("E4, different times", |case| opening(case, [5, 5, 7])),
+    ("E5, equal times", |case| opening(case, [5, 5, 5])),
     ("E6, seven items in three parts", seven_in_three),
     ("E10, fingerprints", fingerprints),
     ("E11, an item that they lack", one_item),
@@ -29,6 +29,7 @@ const EXAMPLES: [(&str, Example); 20] = [
     ("skips in answers", skips),
     ("replies that say little", short_replies),
     ("128 ids and byte limits", byte_limits),
+    ("an opening by the former rule, carried on", carried_on),
     ("E21, a batch of two items", batch_of_two),
     ("E22, batches with an id under two times", batches_under_two_times),
     ("E23, refused batches", refused_batches),
@@ -228,14 +229,19 @@ fn varints(case: &mut Case<'_, '_>) -> Check {
     Ok(())
 }
 
-/// An opening whose first bound has this time code, with exact room and one byte less.
+/// An opening whose first bound has this time code: the second part begins with the second item.
 fn time_code(case: &mut Case<'_, '_>, value: u64, bytes: &str) -> Check {
-    let three = table(&[(0, &[1]), (1, &[2]), (value - 1, &[3])]);
+    let three = table(&[(0, &[1]), (value - 1, &[2]), (value - 1, &[3])]);
     let opener = end(&three, 2, 2);
     let opened = opened(case, opener)?;
     let start = from_text(&format!("61 {} 00 01", bytes));
     same(&opened.message()[..start.len()], &start, "messages with a time code")?;
-    let (marks, out) = (case.rng.bytes(3), case.rng.bytes(opened.message().len()));
+    exact_room(case, opener, opened.message().len())
+}
+
+/// An opening with exact room, and with one byte less.
+fn exact_room(case: &mut Case<'_, '_>, opener: End<'_>, length: usize) -> Check {
+    let (marks, out) = (case.rng.bytes(opener.table.count()), case.rng.bytes(length));
     let input = opener.input(Call::Open).with_state(NEW_SESSION, &marks, &[]);
     case.expect(&input.with_out(&out), 0)?;
     case.expect(&input.with_out(&out[1..]), 12)?;
@@ -263,12 +269,17 @@ fn answered(case: &mut Case<'_, '_>, query: &str, expected: &str) -> Check {
     Ok(())
 }
 
-/// Ids 01, 02 and 03 under these times: two parts, with this bound between them.
-fn opening(case: &mut Case<'_, '_>, times: [u64; 3], bound: &str) -> Check {
+/// The fingerprints of the ids 01 alone, and of 02 and 03.
+const FIRST: &str = "2e255099d6d6bee307c8e7075acc78f9";
+const OTHERS: &str = "d27c48779563ae9b8f7bfc1ba05462c8";
+
+/// Ids 01, 02 and 03 under these times: parts of one item and of two, in just 40 bytes.
+fn opening(case: &mut Case<'_, '_>, times: [u64; 3]) -> Check {
     let three = table(&[(times[0], &[1]), (times[1], &[2]), (times[2], &[3])]);
-    let (first, second) = ("055ec405febfad804c1c5638d7369361", "7e839d7aa6d079f68e2589f6c668a00f");
-    let message = format!("61 {} 01 {} 00 00 01 {}", bound, first, second);
-    written(&opened(case, end(&three, 2, 2))?, &message)
+    let opener = end(&three, 2, 2);
+    let message = format!("61 06 01 02 01 {} 00 00 01 {}", FIRST, OTHERS);
+    written(&opened(case, opener)?, &message)?;
+    exact_room(case, opener, 40)
 }
 
 /// The parts are told by their bounds.
@@ -279,9 +290,9 @@ fn seven_in_three(case: &mut Case<'_, '_>) -> Check {
     if message.len() != 1 + 3 * 19 {
         return Err(format!("{} bytes", message.len()));
     }
-    // The second part begins with the fourth item and the third one with the sixth: times 4 and 6.
+    // The second part begins with the third item and the third one with the fifth: times 3 and 5.
     let starts = [&message[1..4], &message[20..23], &message[39..42]].concat();
-    same(&starts, &from_text("05 00 01 03 00 01 00 00 01"), "bounds of the parts")
+    same(&starts, &from_text("04 00 01 03 00 01 00 00 01"), "bounds of the parts")
 }
 
 /// No item; and the ids FF (32 times) and 01 then zeros, whose sum is 0.
@@ -439,6 +450,21 @@ fn byte_limits(case: &mut Case<'_, '_>) -> Check {
         }
     }
     Ok(())
+}
+
+/// Five items of times 100 to 500: the former rule cut them before the fourth, into three and two. The three are cut into
+/// one and two, by the other end that is handed this query, and by the opener that is handed a reply with a bound at 47.
+fn carried_on(case: &mut Case<'_, '_>) -> Check {
+    let five = table(&[(100, &[1]), (200, &[2]), (300, &[3]), (400, &[4]), (500, &[5])]);
+    let query = from_text("61 83 11 00 01 AA*16 00 00 01 BB*16");
+    let out = case.rng.bytes(400);
+    let input = end(&five, 2, 2).input(Call::Answer).with_message(&query).with_out(&out);
+    let parts = format!("00 01 {} 81 49 00 01 {}", FIRST, OTHERS);
+    let answer = format!("61 81 49 {} 00 00 02 02 04 00*31 05 00*31", parts);
+    written(&case.expect(&input, 0)?, &answer)?;
+    let taken = taken(case, &five, "61 30 00 01 AA*16 82 62 00 01 BB*16")?;
+    written(&taken, &format!("61 30 00 02 00 81 1A {}", parts))?;
+    session(&taken, 0, 0, false)
 }
 
 /// A batch for the table of (5, 01) and (7, 03) in buffers for so many items, with 02, 03 and 04 needed.

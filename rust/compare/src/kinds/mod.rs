@@ -1,4 +1,5 @@
 //! The kinds of cases, a file for each.
+mod carried;
 mod damaged;
 mod digests;
 mod examples;
@@ -24,6 +25,7 @@ use crate::input::{After, Input};
 use crate::rng::Rng;
 use crate::short::{self, Kept};
 use crate::tree::{TreeAfter, TreeInput};
+use reference::Odd;
 use std::panic::{catch_unwind, AssertUnwindSafe};
 
 /// One case: all that it does is fixed by its kind, its seed, its index and whether it is of the long run.
@@ -90,6 +92,16 @@ impl Case<'_, '_> {
         self.comparer.counts.short_lists += u64::from(kept == Kept::PartOfList);
         Ok(kept == Kept::Whole)
     }
+
+    /// Whether a message is one by the former rule where the rule of today makes another.
+    pub fn is_former(&mut self, input: &Input<'_>, message: &[u8]) -> bool {
+        if input.odd == Odd::ToLast {
+            return false;
+        }
+        let is_former = self.comparer.with_all_room(&input.by(Odd::ToLast)).message() != message;
+        self.comparer.counts.former += u64::from(is_former);
+        is_former
+    }
 }
 
 pub fn expect_number(told: u8, expected: u8) -> Check {
@@ -141,7 +153,7 @@ macro_rules! kind {
     };
 }
 
-pub static KINDS: [Kind; 16] = [
+pub static KINDS: [Kind; 17] = [
     kind!(examples),
     kind!(refusals),
     kind!(versions),
@@ -150,6 +162,7 @@ pub static KINDS: [Kind; 16] = [
     kind!(sessions),
     kind!(room),
     kind!(within),
+    kind!(carried),
     kind!(fingerprints),
     kind!(limits),
     kind!(lists),

@@ -136,7 +136,7 @@ fn exact_and_short_room(case: &mut Case<'_, '_>, input: &Input<'_>) -> Check {
 
 /// How the limits of a session are chosen.
 #[derive(Clone, Copy)]
-enum Choice {
+pub enum Choice {
     /// The same for all calls of each end.
     Fixed([Option<usize>; 2]),
     /// Others for each take and each answer.
@@ -144,7 +144,7 @@ enum Choice {
 }
 
 impl Choice {
-    fn new(rng: &mut Rng) -> Choice {
+    pub fn new(rng: &mut Rng) -> Choice {
         let limit = Some(rng.pick(&[MIN_BYTE_LIMIT, 5_000, 9_000]));
         let fixed = [[limit, limit], [limit, None], [None, limit]];
         if rng.chance(60) {
@@ -154,7 +154,7 @@ impl Choice {
         }
     }
 
-    fn limits(self, rng: &mut Rng) -> [Option<usize>; 2] {
+    pub fn limits(self, rng: &mut Rng) -> [Option<usize>; 2] {
         let mut any = || {
             let other = Some(rng.between(MIN_BYTE_LIMIT, 20_000));
             rng.pick(&[None, Some(MIN_BYTE_LIMIT), other, Some(usize::MAX)])

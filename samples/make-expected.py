@@ -55,7 +55,8 @@ def cut(table, lower, upper):
         return [(upper, IDS, [id_ for _, id_ in items])]
     ranges, at = [], 0
     for part in range(PARTS):
-        end = at + len(items) // PARTS + (part < len(items) % PARTS)
+        # The odd items go to the last parts.
+        end = at + len(items) // PARTS + (part >= PARTS - len(items) % PARTS)
         bound = upper if part == PARTS - 1 else bound_between(items[end - 1], items[end])
         ranges.append((bound, FINGERPRINT, fingerprint(items[at:end])))
         at = end

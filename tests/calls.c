@@ -56,20 +56,40 @@ static void empty_tables(void) {
 
 /* E4: two fingerprint ranges; the same with one byte too little. */
 static void two_ranges(void) {
-    const uint8_t query[39] = {0x61, 0x08, 0x00, 0x01, 0x05, 0x5e, 0xc4, 0x05, 0xfe, 0xbf, 0xad, 0x80, 0x4c, 0x1c, 0x56, 0x38, 0xd7, 0x36, 0x93, 0x61,
-                               0x00, 0x00, 0x01, 0x7e, 0x83, 0x9d, 0x7a, 0xa6, 0xd0, 0x79, 0xf6, 0x8e, 0x25, 0x89, 0xf6, 0xc6, 0x68, 0xa0, 0x0f};
-    uint8_t marks[4], needed[64], out[40];
+    const uint8_t query[40] = {0x61, 0x06, 0x01, 0x02, 0x01, 0x2e, 0x25, 0x50, 0x99, 0xd6, 0xd6, 0xbe, 0xe3, 0x07,
+                               0xc8, 0xe7, 0x07, 0x5a, 0xcc, 0x78, 0xf9, 0x00, 0x00, 0x01, 0xd2, 0x7c, 0x48, 0x77,
+                               0x95, 0x63, 0xae, 0x9b, 0x8f, 0x7b, 0xfc, 0x1b, 0xa0, 0x54, 0x62, 0xc8};
+    uint8_t marks[4], needed[64], out[41];
     const uint8_t zeros[3] = {0};
     memset(marks, OLD, sizeof marks);
     memset(needed, OLD, sizeof needed);
     memset(out, OLD, sizeof out);
-    recon_session_answer refused = recon_open(times, 3, ids, 96, 2, 2, marks, 3, needed, 64, out, 38);
-    expect("E4 has no room in 38 bytes", refused.refusal == RECON_NO_ROOM && refused.length == 0);
+    recon_session_answer refused = recon_open(times, 3, ids, 96, 2, 2, marks, 3, needed, 64, out, 39);
+    expect("E4 has no room in 39 bytes", refused.refusal == RECON_NO_ROOM && refused.length == 0);
     expect("a refused opening is not done", is_session(refused.session, 0, 0, false));
-    expect("a refused opening changes nothing", begins(marks, 4, nothing, 0) && begins(needed, 64, nothing, 0) && begins(out, 40, nothing, 0));
-    recon_session_answer opened = recon_open(times, 3, ids, 96, 2, 2, marks, 3, needed, 64, out, 39);
-    expect("E4 opens with 39 bytes", opened.refusal == RECON_OK && opened.length == 39 && begins(out, 40, query, 39));
+    expect("a refused opening changes nothing", begins(marks, 4, nothing, 0) && begins(needed, 64, nothing, 0) && begins(out, 41, nothing, 0));
+    recon_session_answer opened = recon_open(times, 3, ids, 96, 2, 2, marks, 3, needed, 64, out, 40);
+    expect("E4 opens with 40 bytes", opened.refusal == RECON_OK && opened.length == 40 && begins(out, 41, query, 40));
     expect("E4 sets the marks to 0", begins(marks, 4, zeros, 3) && begins(needed, 64, nothing, 0));
+}
+
+/* E4's query by the former rule, which cut its items into the first two and the third: it is answered, and the answer ends the session that it
+   opened. The other end lacks the second item. */
+static void former_rule(void) {
+    const uint8_t query[39] = {0x61, 0x08, 0x00, 0x01, 0x05, 0x5e, 0xc4, 0x05, 0xfe, 0xbf, 0xad, 0x80, 0x4c, 0x1c, 0x56, 0x38, 0xd7, 0x36, 0x93, 0x61,
+                               0x00, 0x00, 0x01, 0x7e, 0x83, 0x9d, 0x7a, 0xa6, 0xd0, 0x79, 0xf6, 0x8e, 0x25, 0x89, 0xf6, 0xc6, 0x68, 0xa0, 0x0f};
+    const uint64_t other_times[2] = {5, 7};
+    const uint8_t other_ids[64] = {[0] = 1, [32] = 3}, same[1] = {0x61}, listed[37] = {0x61, 8, 0, 2, 1, 1}, second[3] = {0, 1, 0};
+    uint8_t marks[4] = {0, 0, 0, OLD}, needed[1] = {OLD}, out[40], none[1] = {OLD};
+    memset(out, OLD, sizeof out);
+    recon_answer_t equal = recon_answer(times, 3, ids, 96, 2, 2, query, 39, out, 40);
+    expect("a query by the former rule finds equal items", equal.refusal == RECON_OK && equal.length == 1 && begins(out, 40, same, 1));
+    recon_answer_t answer = recon_answer(other_times, 2, other_ids, 64, 2, 2, query, 39, out, 40);
+    expect("a query by the former rule is answered", answer.refusal == RECON_OK && answer.length == 37 && begins(out, 40, listed, 37));
+    const recon_session session = {0, 0, false};
+    recon_session_answer taken = recon_take(times, 3, ids, 96, 2, 2, out, 37, session, marks, 3, needed, 0, none, 0);
+    expect("a session of the former rule is done", taken.refusal == RECON_OK && taken.length == 0 && is_session(taken.session, 1, 0, true));
+    expect("a session of the former rule reports", begins(marks, 4, second, 3) && needed[0] == OLD && none[0] == OLD);
 }
 
 /* E11, and then a done session; a reply with an id that is lacking. */
@@ -1464,6 +1484,7 @@ static void openings(void) {
 int main(void) {
     empty_tables();
     two_ranges();
+    former_rule();
     reports();
     versions();
     cut_list();

@@ -271,7 +271,7 @@ grep -v '^#' ours.txt | sort -r | tr a-f A-F | sed 's/$/\r/' >reordered.txt
 printf '\n# the end, without a line feed' >>reordered.txt
 cat >want <<'END'
 rounds:         1
-ours to theirs: 1 message, 340 bytes
+ours to theirs: 1 message, 339 bytes
 theirs to ours: 1 message, 1 byte
 nothing is missing at either end
 END

@@ -217,7 +217,8 @@ pub struct Table<'a> {
     pub ids: &'a [u8],
 }
 
-/// How a range is cut: into `parts`, if it holds more than `limit` items; otherwise its ids are listed.
+/// How a range is cut: into `parts`, if it holds more than `limit` items; otherwise its ids are listed. Where the items do not divide evenly,
+/// the last parts hold one more; a session that was opened when the first parts did is carried on.
 ///
 /// ```
 /// use recon::{Cut, MAX_LIMIT, MAX_PARTS};

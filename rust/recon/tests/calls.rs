@@ -57,19 +57,19 @@ fn a_refused_call_changes_nothing() {
         times: &[5, 5, 7],
         ids: &own,
     };
-    let (mut marks, mut out) = ([9; 3], [9; 38]);
+    let (mut marks, mut out) = ([9; 3], [9; 39]);
     assert_eq!(
         open_session(table, CUT, &mut marks, &[], &mut out),
         Err(Refusal::NoRoom)
     );
-    assert_eq!((marks, out), ([9; 3], [9; 38]));
+    assert_eq!((marks, out), ([9; 3], [9; 39]));
     assert_eq!(
         answer_query(table, Cut { parts: 1, limit: 2 }, &[], &mut out),
         Err(Refusal::CutLimits)
     );
     assert_eq!(answer_query(table, CUT, &[], &mut out), Err(Refusal::WrongVersion));
     assert_eq!(answer_query(table, CUT, &[0x62], &mut []), Err(Refusal::NoRoom));
-    assert_eq!(out, [9; 38]);
+    assert_eq!(out, [9; 39]);
 }
 
 #[test]

@@ -1,6 +1,6 @@
 //! Known answers, written by hand: the message of an opening, and the fingerprint between two bounds. E4, E5, E6 and E10 are
 //! examples of the specification; the fingerprints are sha256sum's, of sums made by hand.
-use recon::{fingerprint, open_session, Bound, Cut, Refusal, Session, Table};
+use recon::{answer_query, fingerprint, open_session, take_reply, Bound, Cut, Refusal, Session, Table};
 
 /// Bytes, or the number of a refusal.
 type Answer = Result<Vec<u8>, u64>;
@@ -12,6 +12,13 @@ struct Items {
     ids: Vec<u8>,
 }
 
+impl Items {
+    fn table(&self) -> Table<'_> {
+        let Items { times, ids } = self;
+        Table { times, ids }
+    }
+}
+
 struct Row {
     name: &'static str,
     items: Items,
@@ -19,15 +26,6 @@ struct Row {
     bounds: [Bound<'static>; 2],
     message: Answer,
     fingerprint: Answer,
-}
-
-impl Row {
-    fn table(&self) -> Table<'_> {
-        Table {
-            times: &self.items.times,
-            ids: &self.items.ids,
-        }
-    }
 }
 
 const INFINITY: Bound<'static> = Bound::Infinity;
@@ -90,43 +88,41 @@ fn row(
     }
 }
 
-/// The fingerprint of no items, of the id 01 alone, and of the two parts of E4 and E5.
+/// The fingerprint of no items, of the id 01 alone, and of 02 and 03. These two are the parts of E4 and E5.
 const NONE: &str = "7f9c9e31ac8256ca2f258583df262dbc";
 const ONE: &str = "2e255099d6d6bee307c8e7075acc78f9";
-const FIRST: &str = "055ec405febfad804c1c5638d7369361";
-const SECOND: &str = "7e839d7aa6d079f68e2589f6c668a00f";
+const OTHERS: &str = "d27c48779563ae9b8f7bfc1ba05462c8";
+
+/// That of the ids 01 and 02, and of 03 alone.
+const FIRST_TWO: &str = "055ec405febfad804c1c5638d7369361";
+const THIRD: &str = "7e839d7aa6d079f68e2589f6c668a00f";
 
 fn e4() -> Items {
     items(&[5, 5, 7], "01 02 03")
 }
 
+/// The message of E4 and of E5, 40 bytes.
 fn e4_message() -> Answer {
-    two_parts("08 00")
-}
-
-/// The message of E4 or E5, with this bound between the parts.
-fn two_parts(bound: &str) -> Answer {
-    hex(&format!("61 {bound} 01 {FIRST} 00 00 01 {SECOND}"))
+    hex(&format!("61 06 01 02 01 {ONE} 00 00 01 {OTHERS}"))
 }
 
 #[rustfmt::skip]
 fn examples() -> Vec<Row> {
     let e5 = items(&[5, 5, 5], "01 02 03");
-    let e5_message = || two_parts("06 01 03");
-    let e6 = items(&[10, 20, 20, 20, 30, 40, 40], "01 02 050607 050608 04 09 0A");
-    let (a, b) = ("b3b6042635da90e7519b7ebf70944dc2", "af0c9e110943bbf11db2d71317c44cf6");
-    let c = "0578b89536f38a0704590f179fd347f5";
+    let e6 = items(&[10, 20, 20, 20, 40, 40, 50], "01 050607 050608 07 04 09 0A");
+    let (a, b) = ("5bccb53c7a96f679e573d40dd19fb532", "e9e2ade1f13eaa94e31b25a9d7108dc4");
+    let c = "3d1176a39f155ad43791fdf9f98ffff5";
     let e6_message = || hex(&format!("61 15 03 050608 01 {a} 15 00 01 {b} 00 00 01 {c}"));
-    let e6_bound = at(20, &[5, 6, 8]);
+    let (e4_bound, e6_bound) = (at(5, &[2]), at(20, &[5, 6, 8]));
     let e10 = items(&[1, 2], &format!("{} 01", "FF".repeat(32)));
     let e10_message = hex(&format!("61 00 00 02 02 {} 01{}", "FF".repeat(32), "00".repeat(31)));
     vec![
         row("no items", &items(&[], ""), (2, 2), WHOLE, hex("61 00 00 02 00"), hex(NONE)),
         row("E4, all items", &e4(), (2, 2), WHOLE, e4_message(), hex("2ba62c87dd9caf05616735c078ff06f1")),
-        row("E4, first part", &e4(), (2, 2), [START, at(7, &[])], e4_message(), hex(FIRST)),
-        row("E4, second part", &e4(), (2, 2), [at(7, &[]), INFINITY], e4_message(), hex(SECOND)),
-        row("E5, first part", &e5, (2, 2), [START, at(5, &[3])], e5_message(), hex(FIRST)),
-        row("E5, second part", &e5, (2, 2), [at(5, &[3]), INFINITY], e5_message(), hex(SECOND)),
+        row("E4, first part", &e4(), (2, 2), [START, e4_bound], e4_message(), hex(ONE)),
+        row("E4, second part", &e4(), (2, 2), [e4_bound, INFINITY], e4_message(), hex(OTHERS)),
+        row("E5, first part", &e5, (2, 2), [START, e4_bound], e4_message(), hex(ONE)),
+        row("E5, second part", &e5, (2, 2), [e4_bound, INFINITY], e4_message(), hex(OTHERS)),
         row("E6, first part", &e6, (3, 3), [START, e6_bound], e6_message(), hex(a)),
         row("E6, second part", &e6, (3, 3), [e6_bound, at(40, &[])], e6_message(), hex(b)),
         row("E6, third part", &e6, (3, 3), [at(40, &[]), INFINITY], e6_message(), hex(c)),
@@ -142,7 +138,8 @@ fn other_bounds() -> Vec<Row> {
     let e4_row = |name, bounds, fingerprint| row(name, &e4(), (2, 2), bounds, e4_message(), hex(fingerprint));
     vec![
         row("one list; the first item", &e4(), (2, 3), [START, second_item], Ok(list), hex(ONE)),
-        e4_row("from the second item on", [second_item, INFINITY], "d27c48779563ae9b8f7bfc1ba05462c8"),
+        e4_row("below time 7", [START, at(7, &[])], FIRST_TWO),
+        e4_row("from time 7 on", [at(7, &[]), INFINITY], THIRD),
         e4_row("the second item alone", [second_item, at(7, &[])], "3d35f2a4f394a3b1d39c567506bc9b2b"),
         e4_row("below all items", [START, at(5, &[])], NONE),
         e4_row("above all items", [at(7, &[4]), INFINITY], NONE),
@@ -160,8 +157,8 @@ const fn high(last: u8) -> [u8; 32] {
     id
 }
 
-const HIGH_3: [u8; 32] = high(3);
-const HIGH_5: [u8; 32] = high(5);
+const HIGH_2: [u8; 32] = high(2);
+const HIGH_4: [u8; 32] = high(4);
 
 /// The longest time code and the longest prefixes.
 #[rustfmt::skip]
@@ -169,15 +166,15 @@ fn longest_bounds() -> Vec<Row> {
     let ff = "FF".repeat(31);
     let ids: Vec<String> = (0..7).map(|last| format!("{ff}0{last}")).collect();
     let long = items(&[LAST_TIME; 7], &ids.join(" "));
-    let (a, b) = ("4333e0fb33ef5ad1bd90a0b863a982e8", "9df601d681147d9e86b3bd5913c113ee");
-    let c = "8b5b4e1b91541bff12e32e8a61a042e2";
+    let (a, b) = ("3db8aac218d4896c303b2d12667dcfa9", "89f109741ef1bff87497b77bf7aa164d");
+    let c = "f36dbb4ba3380139d64c49fd81ef55f6";
     let latest = format!("81 {} 7F", "FF".repeat(8));
-    let message = || hex(&format!("61 {latest} 20 {ff}03 01 {a} 01 20 {ff}05 01 {b} 00 00 01 {c}"));
-    let (fourth_item, sixth_item) = (at(LAST_TIME, &HIGH_3), at(LAST_TIME, &HIGH_5));
+    let message = || hex(&format!("61 {latest} 20 {ff}02 01 {a} 01 20 {ff}04 01 {b} 00 00 01 {c}"));
+    let (third_item, fifth_item) = (at(LAST_TIME, &HIGH_2), at(LAST_TIME, &HIGH_4));
     vec![
-        row("longest bounds, first part", &long, (3, 3), [START, fourth_item], message(), hex(a)),
-        row("longest bounds, second part", &long, (3, 3), [fourth_item, sixth_item], message(), hex(b)),
-        row("longest bounds, third part", &long, (3, 3), [sixth_item, INFINITY], message(), hex(c)),
+        row("longest bounds, first part", &long, (3, 3), [START, third_item], message(), hex(a)),
+        row("longest bounds, second part", &long, (3, 3), [third_item, fifth_item], message(), hex(b)),
+        row("longest bounds, third part", &long, (3, 3), [fifth_item, INFINITY], message(), hex(c)),
     ]
 }
 
@@ -242,7 +239,7 @@ const OLD: u8 = 0xa5;
 /// The message of an opening with this room. A refused one changes nothing; another sets the marks to 0.
 fn opened(row: &Row, room: usize) -> Answer {
     let (mut marks, mut out) = (vec![OLD; row.items.times.len()], vec![OLD; room]);
-    let result = open_session(row.table(), row.cut, &mut marks, &[], &mut out);
+    let result = open_session(row.items.table(), row.cut, &mut marks, &[], &mut out);
     let mark = if result.is_ok() { 0 } else { OLD };
     assert!(marks.iter().all(|&m| m == mark), "{}: marks", row.name);
     match result {
@@ -276,7 +273,24 @@ fn messages_of_openings() {
 fn fingerprints_between_bounds() {
     for row in rows() {
         let [lower, upper] = row.bounds;
-        let answer = fingerprint(row.table(), lower, upper).map(|bytes| bytes.to_vec());
+        let answer = fingerprint(row.items.table(), lower, upper).map(|bytes| bytes.to_vec());
         assert_eq!(answer.map_err(Refusal::number), row.fingerprint, "{}", row.name);
     }
+}
+
+/// E4's items were cut into the first two and the third by the former rule. Its query is answered, and the answer ends the
+/// session that it opened: the other end lacks the second item.
+#[test]
+fn a_session_of_the_former_rule_is_carried_on() {
+    let (ours, theirs) = (e4(), items(&[5, 7], "01 03"));
+    let cut = Cut { parts: 2, limit: 2 };
+    let query = bytes(&format!("61 08 00 01 {FIRST_TWO} 00 00 01 {THIRD}"));
+    let (mut reply, mut marks) = ([OLD; 38], [0; 3]);
+    assert_eq!(answer_query(ours.table(), cut, &query, &mut reply), Ok(1));
+    assert_eq!(answer_query(theirs.table(), cut, &query, &mut reply), Ok(37));
+    assert_eq!(reply[..37], bytes(&format!("61 08 00 02 01 01{}", "00".repeat(31))));
+    let (marked, needed, done) = (0, 0, false);
+    let opened = Session { marked, needed, done };
+    let sent = take_reply(ours.table(), cut, &reply[..37], opened, &mut marks, &mut [], &mut []).unwrap();
+    assert_eq!((sent.length, sent.session.done, marks), (0, true, [0, 1, 0]));
 }

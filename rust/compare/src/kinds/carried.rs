@@ -1,6 +1,6 @@
-//! Sessions opened under the former rule and carried on under that of today: the reference makes the calls by the former
-//! rule, and both implementations all others. Each end changes over by itself, at any time or in any mix, and answers of
-//! before come late and again, as do afresh answers to queries of before.
+//! Sessions opened under the former rule and carried on under that of today. The reference alone makes the calls by the
+//! former rule; all others are compared. Each end changes over by itself, at any time, or is of either rule at each call.
+//! Answers of before come late and again, and queries of before are answered afresh.
 use super::within::Choice;
 use super::Case;
 use crate::compare::Check;
@@ -74,16 +74,15 @@ impl Change {
 /// Those of both ends: before the opening or right after it, later, or in any mix; at least one has a call by the former
 /// rule. The first answer is made where one query has been sent.
 fn changes(rng: &mut Rng) -> [Change; 2] {
-    let later = Change::After(rng.between(2, 5));
-    let [never, opening] = [Change::After(0), Change::After(1)];
-    let mut changes = [
-        rng.pick(&[opening, opening, later, later, Change::Mixed]),
-        rng.pick(&[never, Change::After(2), later, Change::Mixed]),
-    ];
+    let later = [rng.between(2, 5), rng.between(2, 5)].map(Change::After);
+    let [never, opening] = [0, 1].map(Change::After);
     if rng.chance(15) {
-        changes = [never, rng.pick(&[later, Change::Mixed])];
+        return [never, rng.pick(&[later[1], Change::Mixed])];
     }
-    changes
+    [
+        rng.pick(&[opening, opening, later[0], later[0], Change::Mixed]),
+        rng.pick(&[never, later[1], later[1], Change::Mixed]),
+    ]
 }
 
 /// Tables that differ in many places, or in one.

@@ -106,22 +106,19 @@ pub fn list(table: &Table, items: Items, upper: Bound) -> Range {
 mod tests {
     use super::*;
 
+    /// E6 and others: by the rule of today, and by the former one.
     #[test]
     fn e6_part_sizes() {
-        let last = |c, b| part_sizes(c, b, Odd::ToLast);
-        assert_eq!(last(7, 3), [2, 2, 3]);
-        assert_eq!(last(6, 3), [2, 2, 2]);
-        assert_eq!(last(8, 3), [2, 3, 3]);
-        assert_eq!(last(3, 2), [1, 2]);
-    }
-
-    #[test]
-    fn part_sizes_by_the_former_rule() {
-        let first = |c, b| part_sizes(c, b, Odd::ToFirst);
-        assert_eq!(first(7, 3), [3, 2, 2]);
-        assert_eq!(first(6, 3), [2, 2, 2]);
-        assert_eq!(first(8, 3), [3, 3, 2]);
-        assert_eq!(first(3, 2), [2, 1]);
+        let rows: [(usize, &[usize], &[usize]); 4] = [
+            (7, &[2, 2, 3], &[3, 2, 2]),
+            (6, &[2, 2, 2], &[2, 2, 2]),
+            (8, &[2, 3, 3], &[3, 3, 2]),
+            (3, &[1, 2], &[2, 1]),
+        ];
+        for (count, last, first) in rows {
+            assert_eq!(part_sizes(count, last.len(), Odd::ToLast), last);
+            assert_eq!(part_sizes(count, first.len(), Odd::ToFirst), first);
+        }
     }
 
     /// By either rule no part has more than ceil(c / b) items, which the bound on takes in a row rests on.

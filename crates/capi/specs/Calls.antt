@@ -6,9 +6,12 @@ use lib.Dec.{eqb}
 use lib.ListN.{length}
 use Rattle.message.specs.declared.Bound.{Bound}
 use Rattle.theory.specs.Rounds.{toLast, Cut}
+use Rattle.label.specs.Label as L
+use Rattle.label.specs.Code.{labelIn}
 use Rattle.table.specs.Answer as A
 use Rattle.ends.specs.Calls.{Result}
 use Rattle.ends.specs.Opener as E
+use Rattle.capi.specs.declared.Label.{Label}
 use Rattle.capi.specs.declared.Session.{Session}
 use Rattle.capi.specs.declared.Answer.{Answer}
 use Rattle.capi.specs.declared.SessionAnswer.{SessionAnswer}
@@ -16,26 +19,36 @@ use Rattle.capi.specs.declared.SessionAnswer.{SessionAnswer}
 abbrev pub cutBy : ℕ → ℕ → Cut
 cutBy parts limit = record { parts = parts; limit = limit; odd = toLast }
 
-abbrev pub lentTo : Session → List ℕ → List ℕ → List ℕ → E.Lent
-lentTo s marks needed out = record { session = record { marked = s .marked; needed = s .needed; done = s .done }; marks = marks; needed = needed; out = out }
+-- a label, whose sum stands in four words
+abbrev pub labelBy : Label → L.Label
+labelBy l = labelIn (record { sum = l .sum; count = l .count })
 
--- An opening starts with no session. A refused one answers it: nothing is reported, and it is not done, so that nobody takes it for a finished one.
-abbrev pub noSession : Session
-noSession = record { marked = 0; needed = 0; done = false }
+abbrev pub sessionBy : Session → E.Session
+sessionBy s = record { marked = s .marked; needed = s .needed; done = s .done; label = labelBy (s .label) }
+
+abbrev pub lentTo : Session → List ℕ → List ℕ → List ℕ → E.Lent
+lentTo s marks needed out = record { session = sessionBy s; marks = marks; needed = needed; out = out }
 
 -- the number of the refusal and no length; the number 0 and the length of the message
 abbrev pub told : A.Answer ℕ → Answer
 told (A.answer n) = record { refusal = 0; length = n }
 told (A.refused k) = record { refusal = k; length = 0 }
 
--- the same, and the session as it is afterwards
-abbrev pub toldWith : Result E.Lent → SessionAnswer
-toldWith r =
-    record {
-      refusal = told (r .answer) .refusal;
-      length = told (r .answer) .length;
-      session = record { marked = r .lent .session .marked; needed = r .lent .session .needed; done = r .lent .session .done };
-    }
+-- The same, and the session as it is afterwards. A sum below 2^256 has one spelling in four words, so that this is all of a `SessionAnswer`.
+pub record Told : Type 0 where
+  pub refusal : ℕ
+  pub length : ℕ
+  pub session : E.Session
+
+abbrev pub toldBy : SessionAnswer → Told
+toldBy r = record { refusal = r .refusal; length = r .length; session = sessionBy (r .session) }
+
+abbrev pub toldWith : Result E.Session → Told
+toldWith r = record { refusal = told (r .answer) .refusal; length = told (r .answer) .length; session = r .lent }
+
+-- of an opening or a take
+abbrev pub sessionOf : Result E.Lent → Result E.Session
+sessionOf r = record { answer = r .answer; lent = r .lent .session }
 
 -- A bound with a prefix of so many bytes. At infinity a prefix is 9 (SPEC 7.9), as the time 2^64 - 1 is, which stands in for it.
 abbrev pub boundBy : Bool → ℕ → ℕ → Bound

@@ -5,13 +5,14 @@ use Rattle.table.specs.Answer.{Answer, answer, refused}
 use Rattle.table.specs.Code.{lent}
 use Rattle.ends.specs.Calls.{Result}
 use Rattle.fold.specs.Fold.{Lent}
-use Rattle.capi.specs.Calls.{numberIn}
+use Rattle.ends.specs.Opener as E
+use Rattle.capi.specs.Calls.{sessionBy, numberIn}
 use Rattle.capi.specs.declared.Session.{Session}
 use Rattle.capi.specs.declared.folds.InquiryAnswer.{InquiryAnswer}
 use Rattle.capi.specs.declared.folds.CommitAnswer.{CommitAnswer}
 
 abbrev pub foldLent : List ℕ → List ℕ → Session → List ℕ → Lent
-foldLent times ids s needed = record { table = lent times ids; session = record { marked = s .marked; needed = s .needed; done = s .done }; needed = needed }
+foldLent times ids s needed = record { table = lent times ids; session = sessionBy s; needed = needed }
 
 -- the number of the refusal and zeros; the number 0, how many items would enter and how many ids would stay needed
 abbrev pub toldInquiry : Answer (ℕ × ℕ) → InquiryAnswer
@@ -24,10 +25,13 @@ itemsIn before (answer n) = n
 itemsIn before (refused k) = before
 
 -- the number of the refusal, or 0; the items and the session as they are afterwards
-abbrev pub toldCommit : ℕ → Result Lent → CommitAnswer
-toldCommit items r =
-    record {
-      refusal = numberIn (r .answer);
-      items = itemsIn items (r .answer);
-      session = record { marked = r .lent .session .marked; needed = r .lent .session .needed; done = r .lent .session .done };
-    }
+pub record Told : Type 0 where
+  pub refusal : ℕ
+  pub items : ℕ
+  pub session : E.Session
+
+abbrev pub toldBy : CommitAnswer → Told
+toldBy r = record { refusal = r .refusal; items = r .items; session = sessionBy (r .session) }
+
+abbrev pub toldCommit : ℕ → Result Lent → Told
+toldCommit items r = record { refusal = numberIn (r .answer); items = itemsIn items (r .answer); session = r .lent .session }

@@ -10,7 +10,8 @@ ghost use Prim.Native.Nat.{ℕ};
 ghost use Rattle.table.specs.Code.{lent};
 ghost use Rattle.fold.specs.Fold.{inquired, committed};
 ghost use Rattle.folding.specs.Code.{inquiryOf, outcomeOf, neededBy, lentTo};
-ghost use Rattle.capi.specs.Folds.{foldLent, toldInquiry, toldCommit};
+ghost use Rattle.capi.specs.Calls.{labelBy};
+ghost use Rattle.capi.specs.Folds.{foldLent, toldInquiry, toldBy, toldCommit};
 
 // The number of the refusal, 0 for none; how many items would enter, and how many ids would stay needed.
 #[repr(C)]
@@ -48,8 +49,9 @@ fn tell_inquiry(inquiry: Inquiry) -> InquiryAnswer
 
 // The outcome of a commit to a table of `items` items, in numbers, and the session afterwards.
 fn tell_commit(items: usize, session: Session, outcome: Outcome) -> CommitAnswer
-    ensures { λ r. ⌜ ((times ids list : List ℕ) → r ≡ toldCommit items (record { answer = outcomeOf outcome; lent = lentTo times ids list (session .marked) (neededBy (session .needed) outcome) (session .done) })) ⌝ }
+    ensures { λ r. ⌜ ((times ids list : List ℕ) → toldBy r ≡ toldCommit items (record { answer = outcomeOf outcome; lent = lentTo times ids list (session .marked) (labelBy (session .label)) (neededBy (session .needed) outcome) (session .done) })) ⌝ }
 {
+    let label = session.label;
     match outcome {
         Outcome::Merged { count, needed } => CommitAnswer {
             refusal: 0,
@@ -58,6 +60,7 @@ fn tell_commit(items: usize, session: Session, outcome: Outcome) -> CommitAnswer
                 marked: session.marked,
                 needed,
                 done: session.done,
+                label,
             },
         },
         Outcome::Refused { refusal } => CommitAnswer {
@@ -97,7 +100,7 @@ pub extern "C" fn recon_fold_commit(
     batch_times: &[u64],
     batch_ids: &[u8],
 ) -> CommitAnswer
-    ensures { λ r. ⌜ r ≡ toldCommit items (committed items (foldLent (now (times .entry)) (now (ids .entry)) session (now (needed .entry))) (lent (now («batch_times» .entry)) (now («batch_ids» .entry)))) ⌝ }
+    ensures { λ r. ⌜ toldBy r ≡ toldCommit items (committed items (foldLent (now (times .entry)) (now (ids .entry)) session (now (needed .entry))) (lent (now («batch_times» .entry)) (now («batch_ids» .entry)))) ⌝ }
     ensures { λ _. ⌜ lent (now (times .exit)) (now (ids .exit)) ≡ committed items (foldLent (now (times .entry)) (now (ids .entry)) session (now (needed .entry))) (lent (now («batch_times» .entry)) (now («batch_ids» .entry))) .lent .table ⌝ }
     ensures { λ _. ⌜ now (needed .exit) ≡ committed items (foldLent (now (times .entry)) (now (ids .entry)) session (now (needed .entry))) (lent (now («batch_times» .entry)) (now («batch_ids» .entry))) .lent .needed ⌝ }
 {

@@ -9,9 +9,7 @@ use session::opener::take_reply;
 use session::responder::answer_query;
 use shorten::Limit;
 use table::Checked;
-ghost use Prim.Native.Nat.{ℕ};
 ghost use mathlib.Core.Path.{_≡_};
-ghost use mathlib.Core.List.{List};
 ghost use lib.ListN.{length};
 ghost use Rattle.sha256.specs.Fips180.{digest};
 ghost use Rattle.table.specs.Answer.{bytesIn};
@@ -19,20 +17,29 @@ ghost use Rattle.table.specs.Code.{lent};
 ghost use Rattle.ends.specs.Opener.{opened, taken};
 ghost use Rattle.ends.specs.Responder.{answered};
 ghost use Rattle.sending.specs.Code.{outcomeOf};
-ghost use Rattle.session.specs.Code as opener;
+ghost use Rattle.session.specs.Code.{sessionIn, lentFirst};
 ghost use Rattle.session.specs.Fingerprint.{fingerprintBetween};
-ghost use Rattle.capi.specs.Calls.{cutBy, lentTo, noSession, told, toldWith, boundBy, numberIn};
+ghost use Rattle.capi.specs.Calls.{cutBy, sessionBy, lentTo, told, toldBy, toldWith, sessionOf, boundBy, numberIn};
 
+pub mod convert;
 pub mod folds;
 pub mod trees;
 pub mod within;
 
-// How many marks are 1, how many ids are needed, and whether the session is done.
+// The sum is four words, the least significant first.
+#[repr(C)]
+pub struct Label {
+    pub sum: [u64; 4],
+    pub count: u64,
+}
+
+// How many marks are 1, how many ids are needed, whether the session is done, and the label of the table at its opening.
 #[repr(C)]
 pub struct Session {
     pub marked: usize,
     pub needed: usize,
     pub done: bool,
+    pub label: Label,
 }
 
 // The number of the refusal, 0 for none, and the length of the message that was written.
@@ -65,10 +72,11 @@ pub(crate) fn tell(outcome: Outcome) -> Answer
 
 // The same, and the session afterwards.
 pub(crate) fn tell_session(left: SessionOutcome) -> SessionAnswer
-    ensures { λ r. ⌜ ((marks needed out : List ℕ) → r ≡ toldWith (record { answer = outcomeOf (left .outcome); lent = opener.lentTo (left .session) marks needed out })) ⌝ }
+    ensures { λ r. ⌜ toldBy r ≡ toldWith (record { answer = outcomeOf (left .outcome); lent = sessionIn (left .session) }) ⌝ }
 {
     let outcome = left.outcome;
     let answer = tell(outcome);
+    let sum = left.session.label.sum;
     SessionAnswer {
         refusal: answer.refusal,
         length: answer.length,
@@ -76,6 +84,26 @@ pub(crate) fn tell_session(left: SessionOutcome) -> SessionAnswer
             marked: left.session.marked,
             needed: left.session.needed,
             done: left.session.done,
+            label: Label {
+                sum,
+                count: left.session.label.count,
+            },
+        },
+    }
+}
+
+// The session that was handed over.
+pub(crate) fn handed(session: Session) -> session::opener::Session
+    ensures { λ r. ⌜ sessionIn r ≡ sessionBy session ⌝ }
+{
+    let sum = session.label.sum;
+    session::opener::Session {
+        marked: session.marked,
+        needed: session.needed,
+        done: session.done,
+        label: label::Label {
+            sum,
+            count: session.label.count,
         },
     }
 }
@@ -107,9 +135,9 @@ pub extern "C" fn recon_open(
     needed: &[u8],
     out: &mut [u8],
 ) -> SessionAnswer
-    ensures { λ r. ⌜ r ≡ toldWith (opened (lent (now (times .entry)) (now (ids .entry))) (cutBy parts limit) (lentTo noSession (now (marks .entry)) (now (needed .entry)) (now (out .entry)))) ⌝ }
-    ensures { λ _. ⌜ now (marks .exit) ≡ opened (lent (now (times .entry)) (now (ids .entry))) (cutBy parts limit) (lentTo noSession (now (marks .entry)) (now (needed .entry)) (now (out .entry))) .lent .marks ⌝ }
-    ensures { λ _. ⌜ now (out .exit) ≡ opened (lent (now (times .entry)) (now (ids .entry))) (cutBy parts limit) (lentTo noSession (now (marks .entry)) (now (needed .entry)) (now (out .entry))) .lent .out ⌝ }
+    ensures { λ r. ⌜ toldBy r ≡ toldWith (sessionOf (opened (lent (now (times .entry)) (now (ids .entry))) (cutBy parts limit) (lentFirst (now (marks .entry)) (now (needed .entry)) (now (out .entry))))) ⌝ }
+    ensures { λ _. ⌜ now (marks .exit) ≡ opened (lent (now (times .entry)) (now (ids .entry))) (cutBy parts limit) (lentFirst (now (marks .entry)) (now (needed .entry)) (now (out .entry))) .lent .marks ⌝ }
+    ensures { λ _. ⌜ now (out .exit) ≡ opened (lent (now (times .entry)) (now (ids .entry))) (cutBy parts limit) (lentFirst (now (marks .entry)) (now (needed .entry)) (now (out .entry))) .lent .out ⌝ }
 {
     let cut = Cut { parts, limit };
     tell_session(open_session(times, ids, cut, Limit::Unlimited, marks, needed, out))
@@ -145,16 +173,12 @@ pub extern "C" fn recon_take(
     needed: &mut [u8],
     out: &mut [u8],
 ) -> SessionAnswer
-    ensures { λ r. ⌜ r ≡ toldWith (taken (lent (now (times .entry)) (now (ids .entry))) (cutBy parts limit) (now (reply .entry)) (lentTo session (now (marks .entry)) (now (needed .entry)) (now (out .entry)))) ⌝ }
+    ensures { λ r. ⌜ toldBy r ≡ toldWith (sessionOf (taken (lent (now (times .entry)) (now (ids .entry))) (cutBy parts limit) (now (reply .entry)) (lentTo session (now (marks .entry)) (now (needed .entry)) (now (out .entry))))) ⌝ }
     ensures { λ _. ⌜ now (marks .exit) ≡ taken (lent (now (times .entry)) (now (ids .entry))) (cutBy parts limit) (now (reply .entry)) (lentTo session (now (marks .entry)) (now (needed .entry)) (now (out .entry))) .lent .marks ⌝ }
     ensures { λ _. ⌜ now (needed .exit) ≡ taken (lent (now (times .entry)) (now (ids .entry))) (cutBy parts limit) (now (reply .entry)) (lentTo session (now (marks .entry)) (now (needed .entry)) (now (out .entry))) .lent .needed ⌝ }
     ensures { λ _. ⌜ now (out .exit) ≡ taken (lent (now (times .entry)) (now (ids .entry))) (cutBy parts limit) (now (reply .entry)) (lentTo session (now (marks .entry)) (now (needed .entry)) (now (out .entry))) .lent .out ⌝ }
 {
-    let before = session::opener::Session {
-        marked: session.marked,
-        needed: session.needed,
-        done: session.done,
-    };
+    let before = handed(session);
     let cut = Cut { parts, limit };
     let no = Limit::Unlimited;
     tell_session(take_reply(times, ids, cut, no, reply, before, marks, needed, out))

@@ -1,4 +1,5 @@
 // The calls on trees of labels: those of `labeltree`.
+use crate::Label;
 use labeltree::append::append;
 use labeltree::build::build;
 use labeltree::run::label_of_run;
@@ -10,13 +11,6 @@ ghost use Rattle.tree.specs.Tree as spec;
 ghost use Rattle.tree.specs.Tree.{item};
 ghost use Rattle.capi.specs.Calls.{numberIn};
 ghost use Rattle.capi.specs.Trees.{foundIn};
-
-// The sum is four words, the least significant first.
-#[repr(C)]
-pub struct Label {
-    pub sum: [u64; 4],
-    pub count: u64,
-}
 
 // The number of the refusal, 0 for none, the label of the run, and how many labels were visited.
 #[repr(C)]

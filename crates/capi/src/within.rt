@@ -2,6 +2,7 @@
 use crate::Answer;
 use crate::Session;
 use crate::SessionAnswer;
+use crate::handed;
 use crate::tell;
 use crate::tell_session;
 use cutting::Cut;
@@ -14,7 +15,8 @@ ghost use Rattle.table.specs.Code.{lent};
 ghost use Rattle.limit.specs.Limit as L;
 ghost use Rattle.ends.specs.Opener.{openedWithin, takenWithin};
 ghost use Rattle.ends.specs.Responder.{answeredWithin};
-ghost use Rattle.capi.specs.Calls.{cutBy, lentTo, noSession, told, toldWith};
+ghost use Rattle.session.specs.Code.{lentFirst};
+ghost use Rattle.capi.specs.Calls.{cutBy, lentTo, told, toldBy, toldWith, sessionOf};
 
 // Opens a session, its first query within `bytes` bytes.
 #[no_mangle]
@@ -28,9 +30,9 @@ pub extern "C" fn recon_open_within(
     needed: &[u8],
     out: &mut [u8],
 ) -> SessionAnswer
-    ensures { λ r. ⌜ r ≡ toldWith (openedWithin (L.bytes bytes) (lent (now (times .entry)) (now (ids .entry))) (cutBy parts limit) (lentTo noSession (now (marks .entry)) (now (needed .entry)) (now (out .entry)))) ⌝ }
-    ensures { λ _. ⌜ now (marks .exit) ≡ openedWithin (L.bytes bytes) (lent (now (times .entry)) (now (ids .entry))) (cutBy parts limit) (lentTo noSession (now (marks .entry)) (now (needed .entry)) (now (out .entry))) .lent .marks ⌝ }
-    ensures { λ _. ⌜ now (out .exit) ≡ openedWithin (L.bytes bytes) (lent (now (times .entry)) (now (ids .entry))) (cutBy parts limit) (lentTo noSession (now (marks .entry)) (now (needed .entry)) (now (out .entry))) .lent .out ⌝ }
+    ensures { λ r. ⌜ toldBy r ≡ toldWith (sessionOf (openedWithin (L.bytes bytes) (lent (now (times .entry)) (now (ids .entry))) (cutBy parts limit) (lentFirst (now (marks .entry)) (now (needed .entry)) (now (out .entry))))) ⌝ }
+    ensures { λ _. ⌜ now (marks .exit) ≡ openedWithin (L.bytes bytes) (lent (now (times .entry)) (now (ids .entry))) (cutBy parts limit) (lentFirst (now (marks .entry)) (now (needed .entry)) (now (out .entry))) .lent .marks ⌝ }
+    ensures { λ _. ⌜ now (out .exit) ≡ openedWithin (L.bytes bytes) (lent (now (times .entry)) (now (ids .entry))) (cutBy parts limit) (lentFirst (now (marks .entry)) (now (needed .entry)) (now (out .entry))) .lent .out ⌝ }
 {
     let cut = Cut { parts, limit };
     let most = Limit::Bytes { most: bytes };
@@ -70,16 +72,12 @@ pub extern "C" fn recon_take_within(
     needed: &mut [u8],
     out: &mut [u8],
 ) -> SessionAnswer
-    ensures { λ r. ⌜ r ≡ toldWith (takenWithin (L.bytes bytes) (lent (now (times .entry)) (now (ids .entry))) (cutBy parts limit) (now (reply .entry)) (lentTo session (now (marks .entry)) (now (needed .entry)) (now (out .entry)))) ⌝ }
+    ensures { λ r. ⌜ toldBy r ≡ toldWith (sessionOf (takenWithin (L.bytes bytes) (lent (now (times .entry)) (now (ids .entry))) (cutBy parts limit) (now (reply .entry)) (lentTo session (now (marks .entry)) (now (needed .entry)) (now (out .entry))))) ⌝ }
     ensures { λ _. ⌜ now (marks .exit) ≡ takenWithin (L.bytes bytes) (lent (now (times .entry)) (now (ids .entry))) (cutBy parts limit) (now (reply .entry)) (lentTo session (now (marks .entry)) (now (needed .entry)) (now (out .entry))) .lent .marks ⌝ }
     ensures { λ _. ⌜ now (needed .exit) ≡ takenWithin (L.bytes bytes) (lent (now (times .entry)) (now (ids .entry))) (cutBy parts limit) (now (reply .entry)) (lentTo session (now (marks .entry)) (now (needed .entry)) (now (out .entry))) .lent .needed ⌝ }
     ensures { λ _. ⌜ now (out .exit) ≡ takenWithin (L.bytes bytes) (lent (now (times .entry)) (now (ids .entry))) (cutBy parts limit) (now (reply .entry)) (lentTo session (now (marks .entry)) (now (needed .entry)) (now (out .entry))) .lent .out ⌝ }
 {
-    let before = session::opener::Session {
-        marked: session.marked,
-        needed: session.needed,
-        done: session.done,
-    };
+    let before = handed(session);
     let cut = Cut { parts, limit };
     let most = Limit::Bytes { most: bytes };
     tell_session(take_reply(times, ids, cut, most, reply, before, marks, needed, out))

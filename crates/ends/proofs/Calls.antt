@@ -17,7 +17,7 @@ use Rattle.cutting.specs.Cutting.{outsideLimits, judgeCut}
 use Rattle.limit.specs.Limit.{Limit, belowLeast, judgeLimit, sentMessage}
 use Rattle.ends.specs.Calls.{result, onceRead, reading}
 use Rattle.ends.specs.Responder.{reply, otherVersion, answeredWithin}
-use Rattle.ends.specs.Opener.{Lent, neededIds, capacity, wrongBuffers, wrongContents, firstQuery, openingLeaves, begin, openedWithin, nextQuery, skipsOnly, written, marksAfter, neededAfter, conclude, takenWithin}
+use Rattle.ends.specs.Opener.{Lent, neededIds, capacity, wrongBuffers, wrongContents, otherLabel, firstQuery, openingLeaves, begin, openedWithin, nextQuery, skipsOnly, written, marksAfter, neededAfter, conclude, takenWithin}
 use Rattle.ends.proofs.Lists.{overwrite-front}
 use Rattle.ends.proofs.Relations.{leaves}
 
@@ -131,6 +131,7 @@ unrefused-opening limit T c l n e =
 pub record Taken (limit : Limit) (T : Table) (c : Cut) (m : List ℕ) (l : Lent) (n : ℕ) : Type 0 where
   pub least : belowLeast limit ≡ false
   pub fits : (wrongBuffers T l || wrongContents l) ≡ false
+  pub label : otherLabel T (l .session) ≡ false
   pub going : l .session .done ≡ false
   pub ranges : List Range
   pub rest : List ℕ
@@ -144,17 +145,18 @@ unfolding takenWithin conclude
 unrefused-take limit T c m l n e =
     let w = checked-within limit T c _ (unrefused-result l _ n e) in
     let u = passed 4 (wrongBuffers T l || wrongContents l) _ (w .2) in
-    let v = passed 5 (l .session .done) _ (u .1) in
+    let o = passed 18 (otherLabel T (l .session)) _ (u .1) in
+    let v = passed 5 (l .session .done) _ (o .1) in
     let r = was-read (readMessage m) _ (v .1) in
     let x = passed 11 (ltb (capacity l) (length (neededAfter (items T) (r .0) (neededIds l)))) _ (r .3) in
     let z = both (passed 12 (ltb (length (l .out)) (length (written limit (items T) (nextQuery c (items T) (r .0))))) _ (x .1) .1) in
-    record { least = w .1; fits = u .0; going = v .0; ranges = r .0; rest = r .1; says = r .2; size = z .0; left = z .1 }
+    record { least = w .1; fits = u .0; label = o .0; going = v .0; ranges = r .0; rest = r .1; says = r .2; size = z .0; left = z .1 }
 
 pub refused-take : (limit : Limit) (T : Table) (c : Cut) (m : List ℕ) (l : Lent) (k : ℕ) → takenWithin limit T c m l .answer ≡ refused k
     → takenWithin limit T c m l .lent ≡ l
 unfolding takenWithin
 refused-take limit T c m l k e =
     refused-result l
-    (judgeTable T (judgeCut c (judgeLimit limit (refuseIf 4 (wrongBuffers T l || wrongContents l) (refuseIf 5 (l .session .done) (reading m (λ rs.
+    (judgeTable T (judgeCut c (judgeLimit limit (refuseIf 4 (wrongBuffers T l || wrongContents l) (refuseIf 18 (otherLabel T (l .session)) (refuseIf 5 (l .session .done) (reading m (λ rs.
     let query = nextQuery c (items T) rs in
-    conclude (written limit (items T) query) (skipsOnly query) (marksAfter (items T) rs (l .marks)) (neededAfter (items T) rs (neededIds l)) l))))))) k e
+    conclude (written limit (items T) query) (skipsOnly query) (marksAfter (items T) rs (l .marks)) (neededAfter (items T) rs (neededIds l)) l)))))))) k e

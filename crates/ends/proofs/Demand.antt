@@ -84,7 +84,7 @@ module _ (A B : Table) (a b : Cut) where
     abbrev lawful : Lawful itself taking Answering A B a
     lawful = record {
       refuses = λ t l k e. refused-take unlimited A a (t .reply) l k e;
-      takes = λ t l n e h w. take-took unlimited A a kA (t .reply) l n e w;
+      takes = λ t l n e s h w. take-took unlimited A a kA (t .reply) l n e w;
       replies = λ t h w. answer-replied unlimited B b kB (t .query) (t .reply) (h .out) (h .size) (h .unrefused) (h .written) w;
     }
 
@@ -94,7 +94,7 @@ module _ (A B : Table) (a b : Cut) where
     narrows l n e = record {
       opens = λ u. first-divided unlimited A a kA l n e refl;
       replies = λ t h w u. answer-nests B b kB (t .query) (t .reply) (h .out) (h .size) (h .unrefused) (h .written) w;
-      takes = λ t l n e h w u. take-divides unlimited A a kA (t .reply) l n e w (λ rs h. refl);
+      takes = λ t l n e s h w u. take-divides unlimited A a kA (t .reply) l n e w (λ rs h. refl);
     }
 
   -- a responder that does not answers nothing

@@ -1,4 +1,4 @@
--- All that `Demand3`, `WhoeverOpens` and `TrueAndComplete` ask for can be met, on bytes.
+-- All that `Demand3`, `Demand3Mixed` with takes handed other tables, `KnowsItsTable`, `WhoeverOpens` and `TrueAndComplete` ask for can be met, on bytes.
 use mathlib.Core.Path.{_≡_, refl, sym, ap, _∙_}
 use mathlib.Core.Logic.{_⊎_, _↔_, inl, inr, ⊎-elim}
 use mathlib.Core.List.{List, [], _∷_, _++_, flatten, zipWith, List·Memᴰ, List·Memᴰ·head, List·Memᴰ·cases-cons, List·Memᴰ·eq-of-singleton}
@@ -11,7 +11,8 @@ use Rattle.message.specs.Code.{idsIn}
 use Rattle.message.specs.Bound.{Bound, infinity, start, bigEndian, idSpace, key, readPrefix, readCoded, readBound, spellPrefix, spellBound}
 use Rattle.message.specs.Message.{Payload, fingerprint, ids, Range, range, readIds, readOfMode, readPayload, readRange, readRanges, readMessage, spellPayload, spellRange, spellRanges, spellMessage}
 use Rattle.message.specs.Meaning.{isSkip, prepend, tidy, writeMessage}
-use Rattle.theory.specs.Rounds.{Cut}
+use Rattle.theory.specs.Rounds.{toLast, Cut}
+use Rattle.label.specs.Label.{littleEndian, total, labelOf, sameLabel}
 use Rattle.table.specs.Answer.{Answer, answer, refused}
 use Rattle.table.specs.Lists.{keep, every, rising}
 use Rattle.table.specs.Table.{Item, Table, keyOf, items, wrongSize, notRising, within}
@@ -21,12 +22,16 @@ use Rattle.ends.specs.Lists.{some, same, overwrite}
 use Rattle.ends.specs.Calls.{eachRange}
 use Rattle.ends.specs.Responder as responder
 use Rattle.ends.specs.Responder.{treat, otherVersion, answeredWithin}
-use Rattle.ends.specs.Opener.{Lent, wrongBuffers, wrongContents, firstQuery, openingLeaves, begin, openedWithin, nextQuery, written, unlisted, marksAfter, unowned, insert, neededAfter, takeLeaves, conclude, takenWithin}
+use Rattle.ends.specs.Opener.{Lent, wrongBuffers, wrongContents, otherLabel, firstQuery, openingLeaves, begin, openedWithin, nextQuery, written, unlisted, marksAfter, unowned, insert, neededAfter, takeLeaves, conclude, takenWithin}
 use Rattle.ends.specs.Demand.{Take, Place, opening, Fingerprinted, ReportsOurs, ReportsTheirs, Reported, Answers, HandedAnswers, InRow, unrefused, Throughout, OneTime}
+use Rattle.ends.specs.Converting.{converted}
 use Rattle.ends.specs.Takes.{none, then-refused, then-taken}
+use Rattle.ends.specs.Labelled.{Knows}
 use Rattle.ends.specs.Finished.{end, NoneCollides}
-use Rattle.ends.specs.Instance.{starting, ours, theirs, two, lent, query, reply, take₁, take₂, take₃, takes, Asked, AskedHere, Done, takesBack, AskedBothHere, OwnAnswer, RunHere}
+use Rattle.ends.specs.Instance.{starting, ours, theirs, two, lent, query, reply, take₁, take₂, take₃, takes, Asked, AskedHere, Done, exchanged, more, handedWith, OtherTables, Conversions, takesBack, AskedBothHere, OwnAnswer, RunHere}
 use Rattle.ends.proofs.Demand.{demand3}
+use Rattle.ends.proofs.Mixed.{demand3-mixed}
+use Rattle.ends.proofs.Labelled.{knows-its-table}
 use Rattle.ends.proofs.Finished.{whoever-opens}
 use Rattle.ends.proofs.Tables.{kept}
 use Rattle.ends.proofs.Calls.{Checked, answer-checks}
@@ -91,9 +96,11 @@ record Met : Type 0 where
   enough : 1 ≤ unrefused ours theirs two two (opening ours two lent) takes
   both : AskedBothHere
   mixed : RunHere
+  others : OtherTables
+  conversions : Conversions
 
 met : Met
-unfolding readMessage readRanges readRange readBound readCoded readPrefix readPayload readOfMode readIds readVarint readDigits readBytes key bigEndian idSpace writeMessage tidy prepend isSkip spellMessage spellRanges spellRange spellBound spellPrefix spellPayload spellVarint digitsBefore flatten cut items idsIn zipWith keep every rising keyOf wrongSize notRising within outsideLimits some same overwrite eachRange treat responder.reply otherVersion answeredWithin wrongBuffers wrongContents firstQuery openingLeaves begin openedWithin nextQuery written unlisted marksAfter unowned insert neededAfter takeLeaves conclude takenWithin belowLeast limited sentMessage
+unfolding readMessage readRanges readRange readBound readCoded readPrefix readPayload readOfMode readIds readVarint readDigits readBytes key bigEndian idSpace writeMessage tidy prepend isSkip spellMessage spellRanges spellRange spellBound spellPrefix spellPayload spellVarint digitsBefore flatten cut items idsIn zipWith keep every rising keyOf wrongSize notRising within outsideLimits some same overwrite eachRange treat responder.reply otherVersion answeredWithin wrongBuffers wrongContents firstQuery openingLeaves begin openedWithin nextQuery written unlisted marksAfter unowned insert neededAfter takeLeaves conclude takenWithin belowLeast limited sentMessage otherLabel sameLabel labelOf total littleEndian converted
 met =
     let answers : Answers ours theirs two two query reply = record { out = replicate 37 0; size = 37; unrefused = refl; written = refl } in
     let answers-back : Answers theirs ours two two reply query = record { out = replicate 37 0; size = 37; unrefused = refl; written = refl } in
@@ -122,6 +129,22 @@ met =
         refl,
       );
       mixed = (_, then-taken (then-refused (then-refused none take₁ 6 refl) take₂ 11 refl) take₃ 0 refl (List·Memᴰ·head refl) (two, answers), refl);
+      others = record {
+        exchanged-first = refl;
+        more-first = refl;
+        later-first = refl;
+        same-first = refl;
+        place = _;
+        takes =
+            then-refused
+            (then-taken (then-refused (then-refused none (handedWith exchanged) 18 refl) (handedWith more) 4 refl) (handedWith ours) 0 refl (List·Memᴰ·head refl)
+            (λ e. refl, (unlimited, toLast, record { out = replicate 37 0; size = 37; unrefused = refl; written = refl })))
+            (handedWith exchanged) 18 refl;
+        exchanged-then = refl;
+        same-then = refl;
+        labelled = refl;
+      };
+      conversions = record { done = refl; committed = refl; more = refl; unmarked = refl; changed = refl };
     }
 
 pub asked : AskedHere
@@ -145,6 +168,23 @@ pub both-report : (d : List ℕ)
 both-report d =
     let b = asked-both .0 in
     whoever-opens ours theirs two two two two (asked .ours-bytes) (asked .theirs-bytes) (asked .once) (b .forth) (b .back) (b .none-forth) (b .none-back) d
+
+-- ---- handed another table
+
+pub other-tables : OtherTables
+other-tables = met .others
+
+pub all-converted : Conversions
+all-converted = met .conversions
+
+-- by the theorems, what is reported then is true and complete, and a conversion gives the session back
+pub reported-then : Reported ours theirs (other-tables .place)
+reported-then =
+    demand3-mixed ours theirs two two (asked .ours-bytes) (asked .theirs-bytes) (asked .once) 0 (asked .smallest) unlimited lent 37 (asked .opens)
+    (other-tables .place) (other-tables .takes) .reported
+
+pub knows : Knows ours theirs two two (other-tables .place)
+knows = knows-its-table ours theirs two two (asked .ours-bytes) (asked .theirs-bytes) unlimited lent 37 (asked .opens) (other-tables .place) (other-tables .takes)
 
 -- ---- replies of any kind
 

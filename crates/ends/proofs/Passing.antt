@@ -14,7 +14,7 @@ use Rattle.message.specs.WellFormed.{WellFormed, Bytes}
 use Rattle.message.specs.Code.{idsIn}
 use Rattle.message.proofs.Exact.{byTest}
 use Rattle.message.proofs.Messages.{message-back}
-use Rattle.table.specs.Lists.{keep, rising}
+use Rattle.table.specs.Lists.{rising}
 use Rattle.table.specs.Table.{Item, Table, items}
 use Rattle.table.proofs.Tests.{or-false}
 use Rattle.table.proofs.Ids.{ids-sized}
@@ -27,6 +27,7 @@ use Rattle.ends.proofs.Lists.{overwrite-front, flatten-length, ids-flat
 use Rattle.ends.proofs.Reports.{unowned-sized}
 use Rattle.ends.proofs.Inserting.{Sorted, added-sorted}
 use Rattle.ends.proofs.Calls.{unrefused-opening, unrefused-take}
+use Rattle.ends.proofs.Simulation.{no-ones}
 
 -- ---- what check 4 asks
 
@@ -57,7 +58,7 @@ fits T l e =
       rises = not-false _ (x .1);
     }
 
-fit-passes : (T : Table) (l : Lent) → Fit T l → (wrongBuffers T l ≡ false) × (wrongContents l ≡ false)
+pub fit-passes : (T : Table) (l : Lent) → Fit T l → (wrongBuffers T l ≡ false) × (wrongContents l ≡ false)
 unfolding wrongBuffers wrongContents
 fit-passes T l f =
     let room : l .session .needed ≤ capacity l = le-div-iff-mul-le {k = 32} (omega arith) .1 (f .list) in (
@@ -71,11 +72,6 @@ no-bits : (n : ℕ) → some (ltb 1) (replicate n 0) ≡ false
 unfolding some
 no-bits zero = refl
 no-bits (suc n) = no-bits n
-
-no-ones : (n : ℕ) → ones (replicate n 0) ≡ 0
-unfolding keep
-no-ones zero = refl
-no-ones (suc n) = no-ones n
 
 -- marks set on the items that pass a test
 module _ (set : Item → Bool) where

@@ -13,7 +13,7 @@ use Rattle.theory.specs.Message.{Message}
 use Rattle.theory.specs.Lawful.{LawfulReply, LawfulNext, LawfulOpening}
 use Rattle.table.specs.Table.{Table, items}
 use Rattle.cutting.proofs.Projection.{protocol, project}
-use Rattle.ends.specs.Opener.{Lent, neededIds, skipsOnly, marksAfter, neededAfter, takeLeaves}
+use Rattle.ends.specs.Opener.{Lent, neededIds, tableLabel, skipsOnly, marksAfter, neededAfter, takeLeaves}
 use Rattle.ends.specs.Demand.{Place}
 use Rattle.ends.proofs.Tables.{keysOf}
 
@@ -49,6 +49,8 @@ pub record Begun (A : Table) (o : Place) : Type 0 where
   pub well : WellFormed query
   pub lawful : LawfulOpening protocol (keysOf A) (project query)
   pub going : o .session .done ≡ false
+  pub label : o .session .label ≡ tableLabel A
+  pub marked : o .session .marked ≡ 0
   pub marks : o .marks ≡ replicate (length (A .times)) 0
   pub count : o .session .needed ≡ 0
   pub needed : o .needed ≡ []

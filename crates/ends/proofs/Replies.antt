@@ -59,7 +59,7 @@ module _ (Replies : Table → List ℕ → List ℕ → Type 0) (A B : Table) (a
         reported itself taking Replying A B a
         (record {
           refuses = refuses;
-          takes = λ t l n e h w. take-took unlimited A a kA (t .reply) l n e w;
+          takes = λ t l n e s h w. take-took unlimited A a kA (t .reply) l n e w;
           replies = λ t h w. lawful .replied B (t .query) (t .reply) bytes h w;
         })
         o begun kA hB once ρ

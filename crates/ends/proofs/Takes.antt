@@ -1,6 +1,7 @@
 -- The one theorem about lists of takes, whatever their kinds: if the opening, each reply and each take meet the relations of Relations.antt, reports are true and
 -- complete at every place (`reported`), and a row of L + 1 takes whose messages are not cut short ends in done (`owed-at`). The list of takes becomes one of the
--- theory (`Reached`), step by step, and there the claim is `sound`, `complete` and `rounds`. The needed list is whole ids (`listed`).
+-- theory (`Reached`), step by step, and there the claim is `sound`, `complete` and `rounds`. What a take is handed passes check 4, and
+-- the session has the opener's label (`standing`).
 use Prim.Native.Nat.{ℕ, zero, suc, _≤_}
 use mathlib.Core.Path.{_≡_, refl, ap, _∙_}
 use mathlib.Core.Bool.{true, false}
@@ -23,11 +24,12 @@ use Rattle.table.proofs.Items.{items-length}
 use Rattle.cutting.proofs.Projection.{protocol, project}
 use Rattle.limit.proofs.Parts.{OwnItems}
 use Rattle.ends.specs.Calls.{Result}
-use Rattle.ends.specs.Opener.{Lent}
+use Rattle.ends.specs.Opener.{Lent, tableLabel}
 use Rattle.ends.specs.Demand.{Take, Place, Reported, OneTime}
 use Rattle.ends.specs.Takes.{lentAt, Run, none, then-refused, then-taken, Row, Whole, Owed}
 use Rattle.ends.proofs.Tables.{Kept, keysOf}
-use Rattle.ends.proofs.Lists.{paired-member, Listed}
+use Rattle.ends.proofs.Lists.{paired-member}
+use Rattle.ends.proofs.Standing.{Standing, agrees-stands}
 use Rattle.ends.proofs.Relations.{Means, means-alone, Begun, Replied, Took}
 use Rattle.ends.proofs.Simulation.{Agrees, begun-agrees, after, refused-agrees, taken-agrees, took}
 use Rattle.ends.proofs.Owed.{one-time}
@@ -73,10 +75,11 @@ module _ {X : Type 0} (handed : X → Take) (call : X → Lent → Result Lent) 
 
 module _ {X : Type 0} (handed : X → Take) (call : X → Lent → Result Lent) (Allowed : X → Type 0) (A B : Table) (a : Cut) where
   -- What is asked for true and complete reports: a refused take leaves all as it was; an unrefused take does what `Took` asks with the ranges that its reply
-  -- says; and what it is allowed to be handed is a lawful reply to its query.
+  -- says, where the session has the label of the opener's table; and what it is allowed to be handed is a lawful reply to its query.
   pub record Lawful : Type 0 where
     pub refuses : (x : X) (l : Lent) (k : ℕ) → call x l .answer ≡ refused k → call x l .lent ≡ l
-    pub takes : (x : X) (l : Lent) (n : ℕ) → call x l .answer ≡ answer n → Allowed x → {R : Message (List ℕ)} (w : Means (handed x .reply) R)
+    pub takes : (x : X) (l : Lent) (n : ℕ) → call x l .answer ≡ answer n → l .session .label ≡ tableLabel A → Allowed x
+        → {R : Message (List ℕ)} (w : Means (handed x .reply) R)
         → Took A (w .ranges) l n (call x l .lent)
     pub replies : (x : X) → Allowed x → {Q : Message (List ℕ)} → Means (handed x .query) Q → Replied B Q (handed x .reply)
 
@@ -86,8 +89,9 @@ module _ {X : Type 0} (handed : X → Take) (call : X → Lent → Result Lent) 
     pub record Narrows : Type 0 where
       pub opens : WholeFirst → DividedOpening a (keysOf A) (project (begun .query))
       pub replies : (x : X) (h : Allowed x) {Q : Message (List ℕ)} (w : Means (handed x .query) Q) → WholeReply x → Nested Q (lawful .replies x h w .message)
-      pub takes : (x : X) (l : Lent) (n : ℕ) (e : call x l .answer ≡ answer n) (h : Allowed x) {R : Message (List ℕ)} (w : Means (handed x .reply) R)
-          → WholeQuery x → Divided a (keysOf A) (project (w .ranges)) (project (lawful .takes x l n e h w .query))
+      pub takes : (x : X) (l : Lent) (n : ℕ) (e : call x l .answer ≡ answer n) (s : l .session .label ≡ tableLabel A) (h : Allowed x)
+          {R : Message (List ℕ)} (w : Means (handed x .reply) R)
+          → WholeQuery x → Divided a (keysOf A) (project (w .ranges)) (project (lawful .takes x l n e s h w .query))
 
     abbrev Takes : Place → Type 0
     Takes p = Run handed call Allowed o p
@@ -166,7 +170,7 @@ module _ {X : Type 0} (handed : X → Take) (call : X → Lent → Result Lent) 
           replied = lawful .replies x h (asked .2)
 
           abbrev did : Took A (replied .means .ranges) l n (call x l .lent)
-          did = lawful .takes x l n e h (replied .means)
+          did = lawful .takes x l n e (w .agrees .label) h (replied .means)
 
           made : theory.Take protocol (keysOf A) (keysOf B) (w .session) (asked .0) (project (replied .means .ranges)) (project (did .query))
               (after A a kA (w .session) (asked .0) (project (replied .means .ranges)) (project (did .query)))
@@ -179,8 +183,8 @@ module _ {X : Type 0} (handed : X → Take) (call : X → Lent → Result Lent) 
           taken-row (suc i) z = (first-means (handed x .query) (z .0 .0) (asked .0) (w .session .sent) (rw (z .0 .1) at (w .agrees .sent)) (asked .2), w .row i (z .1))
 
           taken-narrows : Narrows → (i : ℕ) → AllWhole i (then-taken ρ x n e mem h) → Narrowing a (keysOf A) i (theory.taken (w .run) made)
-          taken-narrows z zero c = z .takes x l n e h (replied .means) c
-          taken-narrows z (suc i) c = (w .narrows z i (c .0), rw (replied .means .projected) at (z .replies x h (asked .2) (c .1)), z .takes x l n e h (replied .means) (c .2))
+          taken-narrows z zero c = z .takes x l n e (w .agrees .label) h (replied .means) c
+          taken-narrows z (suc i) c = (w .narrows z i (c .0), rw (replied .means .projected) at (z .replies x h (asked .2) (c .1)), z .takes x l n e (w .agrees .label) h (replied .means) (c .2))
 
           reached-taken : Reached (then-taken ρ x n e mem h)
           reached-taken = record {
@@ -227,11 +231,9 @@ module _ {X : Type 0} (handed : X → Take) (call : X → Lent → Result Lent) 
       ends = λ whole row. row-ends lawful o begun F R Q kA z L enough ρ row whole;
     }
 
-  -- the needed list is whole ids, as many as the session counts
-  pub listed : Lawful → (o : Place) → Begun A o → Kept A a → {p : Place} → Run handed call Allowed o p → Listed (p .session .needed) (p .needed)
-  listed lawful o begun kA ρ =
-      let w = reached lawful o begun (Unit {0}) (λ x. Unit {0}) (λ x. Unit {0}) kA ρ .agrees in
-      record { ids = w .ids; sized = w .sized; list = w .list; count = w .count }
+  -- what every place holds, whatever is reported
+  pub standing : Lawful → (o : Place) → Begun A o → Kept A a → {p : Place} → Run handed call Allowed o p → Standing A (p .session) (p .marks) (p .needed)
+  standing lawful o begun kA ρ = agrees-stands A a kA (reached lawful o begun (Unit {0}) (λ x. Unit {0}) (λ x. Unit {0}) kA ρ .agrees)
 
   -- ---- where no reply is allowed, as where the responder's table is refused: every take is refused
 
@@ -241,40 +243,40 @@ module _ {X : Type 0} (handed : X → Take) (call : X → Lent → Result Lent) 
     no-row n (then-refused ρ x k e) h = no-row n ρ h
     no-row n (then-taken ρ x k e mem g) h = never x g
 
-    -- nothing is reported, and the session is open
-    record AsOpened (p : Place) : Type 0 where
-      needed : p .session .needed ≡ 0
-      marks : (j : ℕ) → getD (p .marks) j 0 ≡ 0
-      going : p .session .done ≡ false
+    -- session, marks and needed list are as the opening left them
+    record AsOpened (o p : Place) : Type 0 where
+      session : p .session ≡ o .session
+      marks : p .marks ≡ o .marks
+      needed : p .needed ≡ []
 
     module _ (refuses : (x : X) (l : Lent) (k : ℕ) → call x l .answer ≡ refused k → call x l .lent ≡ l) (o : Place) (begun : Begun A o) where
-      as-opened : {p : Place} → Run handed call Allowed o p → AsOpened p
-      as-opened none = record {
-        needed = begun .count;
-        marks = λ j. ap (λ (m : List ℕ). getD m j 0) (begun .marks) ∙ zeros (length (A .times)) j;
-        going = begun .going;
-      }
+      as-opened : {p : Place} → Run handed call Allowed o p → AsOpened o p
+      as-opened none = record { session = refl; marks = refl; needed = begun .needed }
       as-opened (then-refused {p = p} ρ x k e) =
           let z = as-opened ρ in
           let left = refuses x (lentAt p (handed x)) k e in
           record {
-            needed = ap (λ (l : Lent). l .session .needed) left ∙ z .needed;
-            marks = λ j. ap (λ (l : Lent). getD (l .marks) j 0) left ∙ z .marks j;
-            going = ap (λ (l : Lent). l .session .done) left ∙ z .going;
+            session = ap (λ (l : Lent). l .session) left ∙ z .session;
+            marks = ap (λ (l : Lent). l .marks) left ∙ z .marks;
+            needed = rw (left, z .session, begun .count) refl;
           }
       as-opened (then-taken ρ x n e mem h) = absurd (never x h)
 
       pub open-never : {p : Place} → Run handed call Allowed o p → p .session .done ≡ false
-      open-never ρ = as-opened ρ .going
+      open-never ρ = rw (as-opened ρ .session) (begun .going)
+
+      pub standing-never : (a : Cut) → Kept A a → {p : Place} → Run handed call Allowed o p → Standing A (p .session) (p .marks) (p .needed)
+      standing-never a kA ρ = let z = as-opened ρ in rw (z .session, z .marks, z .needed) (rw (begun .needed) at (agrees-stands A a kA (begun-agrees A a kA o begun)))
 
       pub reported-never : {p : Place} → Run handed call Allowed o p → Reported A B p
       reported-never {p} ρ =
           let z = as-opened ρ in
+          let unmarked : p .marks ≡ replicate (length (A .times)) 0 = z .marks ∙ begun .marks in
           record {
-            theirs-so = λ d m. absurd (no-ids (p .session .needed) (p .needed) d (z .needed) m);
-            ours-so = λ d w. absurd (let x = w .mark in let y = z .marks (w .index) in omega arith);
-            theirs-all = λ e. clash e (z .going);
-            ours-all = λ e. clash e (z .going);
+            theirs-so = λ d m. absurd (no-ids (p .session .needed) (p .needed) d (rw (z .session) (begun .count)) m);
+            ours-so = λ d w. absurd (let x = rw unmarked at (w .mark) in let y = zeros (length (A .times)) (w .index) in omega arith);
+            theirs-all = λ e. clash e (open-never ρ);
+            ours-all = λ e. clash e (open-never ρ);
           }
 
       pub owed-never : (F : Type 0) (R : X → Type 0) (Q : X → Type 0) (L : ℕ) {p : Place} (ρ : Run handed call Allowed o p) → Owed handed call Allowed F R Q A B L ρ

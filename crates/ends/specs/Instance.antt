@@ -1,4 +1,5 @@
--- What `Demand3`, `WhoeverOpens` and `TrueAndComplete` ask for, and lists of takes on bytes that meet it: one item against another, lists of at most two ids.
+-- What `Demand3`, `WhoeverOpens`, `TrueAndComplete` and `KnowsItsTable` ask for, and lists of takes on bytes that meet it: one item against another, lists of at most two
+-- ids.
 use mathlib.Core.Path.{_≡_}
 use mathlib.Core.Bool.{true, false}
 use mathlib.Core.List.{List, [], _∷_, _++_}
@@ -6,10 +7,14 @@ use Prim.Native.Nat.{ℕ}
 use lib.ListN.{length, replicate}
 use Rattle.message.specs.WellFormed.{Bytes}
 use Rattle.theory.specs.Rounds.{toLast, Cut}
-use Rattle.table.specs.Answer.{answer}
+use Rattle.label.specs.Label.{empty}
+use Rattle.table.specs.Answer.{Answer, answer, refused}
 use Rattle.table.specs.Table.{Table, items}
+use Rattle.limit.specs.Limit.{unlimited}
 use Rattle.ends.specs.Opener.{Lent, opened, taken}
-use Rattle.ends.specs.Takes.{Run}
+use Rattle.ends.specs.Converting.{Unlabelled, converted}
+use Rattle.ends.specs.Takes.{lentAt, Run}
+use Rattle.ends.specs.Mixed.{AnyTake, taking, Takes}
 use Rattle.ends.specs.Finished.{Finished, end, NoneCollides}
 use Rattle.ends.specs.Demand.{Take, Place, opening, run, Answers, HandedAnswers, OneTime, Smallest}
 
@@ -39,7 +44,7 @@ two = record { parts = 2; limit = 2; odd = toLast }
 
 -- what is lent to the opening; the needed buffer has no room yet
 abbrev pub lent : Lent
-lent = record { session = record { marked = 0; needed = 0; done = false }; marks = 0xEE ∷ []; needed = []; out = replicate 40 0xEE }
+lent = record { session = record { marked = 0; needed = 0; done = false; label = empty }; marks = 0xEE ∷ []; needed = []; out = replicate 40 0xEE }
 
 -- the whole range with the opener's id, and with the responder's
 abbrev pub query : List ℕ
@@ -67,6 +72,54 @@ AskedHere = Asked ours theirs two two 0 lent (length query) takes
 -- L + 1 unrefused takes stand in a row, so that the session is done
 abbrev pub Done : Type 0
 Done = run ours theirs two two (opening ours two lent) takes .session .done ≡ true
+
+-- ---- handed another table
+
+-- the item exchanged for another; one item more; and the item at another time, which the label does not tell from `ours`
+abbrev pub exchanged : Table
+exchanged = record { times = 5 ∷ []; ids = starting 0x03 }
+
+abbrev pub more : Table
+more = record { times = 5 ∷ 6 ∷ []; ids = starting 0x01 ++ starting 0x02 }
+
+abbrev pub later : Table
+later = record { times = 7 ∷ []; ids = starting 0x01 }
+
+-- the reply with room, handed over with a table
+abbrev pub handedWith : Table → AnyTake
+handedWith T = record { handed = take₃; table = T; limit = unlimited; odd = toLast }
+
+abbrev pub answerAt : Place → Table → Answer ℕ
+answerAt p T = taking ours theirs two two (handedWith T) (lentAt p take₃) .answer
+
+-- What a take with each of them answers after the opening, and after the take with the table of the opening, which is the only one that is not refused in the list: 18
+-- before 5, and 4 before 18.
+pub record OtherTables : Type 0 where
+  pub exchanged-first : answerAt (opening ours two lent) exchanged ≡ refused 18
+  pub more-first : answerAt (opening ours two lent) more ≡ refused 4
+  pub later-first : answerAt (opening ours two lent) later ≡ answer 0
+  pub same-first : answerAt (opening ours two lent) ours ≡ answer 0
+  pub place : Place
+  pub takes : Takes ours theirs two two unlimited lent place
+  pub exchanged-then : answerAt place exchanged ≡ refused 18
+  pub same-then : answerAt place ours ≡ refused 5
+  pub labelled : place .session ≡ record { marked = 1; needed = 1; done = true; label = record { sum = 0x01; count = 1 } }
+
+-- ---- converted
+
+-- the session that was left, without its label, and its marks and needed list
+abbrev pub keptFrom : Unlabelled
+keptFrom = record { marked = 1; needed = 1; done = true }
+
+-- A session that is done is converted, with the table of the opening; after a commit, too, that took the id off the list. The commit's table has one item more, and the
+-- marks do not fit it. A table that was changed cannot be told from the opening's: the session gets its label.
+pub record Conversions : Type 0 where
+  pub done : converted ours keptFrom (1 ∷ []) (starting 0x02) ≡ answer (record { marked = 1; needed = 1; done = true; label = record { sum = 0x01; count = 1 } })
+  pub committed : converted ours (record { marked = 1; needed = 0; done = true }) (1 ∷ []) (starting 0x02)
+      ≡ answer (record { marked = 1; needed = 0; done = true; label = record { sum = 0x01; count = 1 } })
+  pub more : converted more keptFrom (1 ∷ []) (starting 0x02) ≡ refused 4
+  pub unmarked : converted ours keptFrom (0 ∷ []) (starting 0x02) ≡ refused 4
+  pub changed : converted exchanged keptFrom (1 ∷ []) (starting 0x02) ≡ answer (record { marked = 1; needed = 1; done = true; label = record { sum = 0x03; count = 1 } })
 
 -- ---- opened from either end
 

@@ -18,14 +18,14 @@ use Rattle.table.specs.Lists.{keep, every, rising}
 use Rattle.table.specs.Table.{Item, Table, keyOf, items, wrongSize, notRising, within}
 use Rattle.sha256.specs.Fips180.{digest}
 use Rattle.label.specs.Label as L
-use Rattle.label.specs.Label.{littleEndian, total, labelOf, lowBytes, hashed, spellLabel, readLabel}
+use Rattle.label.specs.Label.{empty, sameLabel, littleEndian, total, labelOf, lowBytes, hashed, spellLabel, readLabel}
 use Rattle.tree.specs.Tree.{depthFrom, depthOf, places, sums, levels, spellLabels, treeOver, wrongTree, labelAt, putLabel, renew, renewAbove, build, grown, noneFree, appended, append, Found, visit, depthIn, labelOfRun}
 use Rattle.cutting.specs.Cutting.{fingerprintOf, shared, shortest, outsideLimits, innerBound, fingerprintRanges, cut}
 use Rattle.limit.specs.Limit.{bytes, belowLeast, exceeds, largest, runEnd, closed, fits, longest, firstIds, mostIds, partOf, shortened, limited, sentMessage}
 use Rattle.ends.specs.Lists.{some, same, overwrite}
 use Rattle.ends.specs.Calls.{Result, eachRange}
 use Rattle.ends.specs.Responder.{compare, treat, reply, otherVersion, answered, answeredWithin}
-use Rattle.ends.specs.Opener.{Lent, wrongBuffers, wrongContents, firstQuery, openingLeaves, begin, opened, openedWithin, nextQuery, written, unlisted, marksAfter, unowned, insert, neededAfter, takeLeaves, conclude, taken, takenWithin}
+use Rattle.ends.specs.Opener.{Lent, wrongBuffers, wrongContents, tableLabel, otherLabel, firstQuery, openingLeaves, begin, opened, openedWithin, nextQuery, written, unlisted, marksAfter, unowned, insert, neededAfter, takeLeaves, conclude, taken, takenWithin}
 use Rattle.fold.specs.Fold as Fold
 use Rattle.fold.specs.Fold.{cannotHold, wrongNeeded, sameItem, notDue, judgeFold, enter, stillNeeded, laid, commitLeaves, inquired, committed}
 use Rattle.examples.specs.Table.{Varint, varints, Refused, refusals, Message, messages, merged, Neighbours, neighbours, Division, divisions, item, Opening, openings, Answering, answers, refusedQueries, one, two, Taking, takes, Labelled, labels, Tree, three, threeLabels, trees, spelled, Depth, depths, Run, emptyRuns, fourth, fourLabels, fourRuns, Limited, numbered, limits, tooSmall, Folding, ownTwo, firstFolding, foldings, ownFour, neededOne, idBytes}
@@ -33,7 +33,7 @@ use Rattle.examples.specs.Table.{Varint, varints, Refused, refusals, Mes
 -- an out buffer of just the size that is needed, and marks that are to become 0
 abbrev beforeOpening : Opening → Lent
 beforeOpening e = record {
-  session = record { marked = 0; needed = 0; done = false };
+  session = record { marked = 0; needed = 0; done = false; label = empty };
   marks = replicate (length (e .table .times)) 0xEE;
   needed = [];
   out = replicate (e .size) 0xEE;
@@ -43,7 +43,7 @@ abbrev afterOpening : Opening → Result Lent
 afterOpening e = record {
   answer = answer (e .size);
   lent = record {
-    session = record { marked = 0; needed = 0; done = false };
+    session = record { marked = 0; needed = 0; done = false; label = tableLabel (e .table) };
     marks = replicate (length (e .table .times)) 0;
     needed = [];
     out = e .message;
@@ -60,7 +60,7 @@ afterAnswer e = record { answer = answer (length (e .reply)); lent = e .reply ++
 -- nothing is written, so that no out buffer is needed
 abbrev beforeTake : Taking → Lent
 beforeTake e = record {
-  session = record { marked = 0; needed = 0; done = false };
+  session = record { marked = 0; needed = 0; done = false; label = tableLabel (e .table) };
   marks = replicate (length (e .table .times)) 0;
   needed = [];
   out = [];
@@ -69,7 +69,7 @@ beforeTake e = record {
 abbrev afterTake : Taking → Result Lent
 afterTake e = record {
   answer = answer 0;
-  lent = record { session = record { marked = e .marked; needed = 0; done = true }; marks = e .marks; needed = []; out = [] };
+  lent = record { session = record { marked = e .marked; needed = 0; done = true; label = tableLabel (e .table) }; marks = e .marks; needed = []; out = [] };
 }
 
 abbrev lentTree : Tree → List ℕ
@@ -86,7 +86,7 @@ tableOf is room = record {
 }
 
 abbrev beforeFold : Folding → Fold.Lent
-beforeFold e = record { table = tableOf ownTwo (e .room); session = record { marked = 1; needed = 3; done = e .done }; needed = e .needed }
+beforeFold e = record { table = tableOf ownTwo (e .room); session = record { marked = 1; needed = 3; done = e .done; label = empty }; needed = e .needed }
 
 abbrev batchOf : Folding → Table
 batchOf e = tableOf (e .batch) (length (e .batch))
@@ -94,7 +94,7 @@ batchOf e = tableOf (e .batch) (length (e .batch))
 abbrev afterFold : Result Fold.Lent
 afterFold = record {
   answer = answer 4;
-  lent = record { table = tableOf ownFour 4; session = record { marked = 1; needed = 1; done = true }; needed = neededOne };
+  lent = record { table = tableOf ownFour 4; session = record { marked = 1; needed = 1; done = true; label = empty }; needed = neededOne };
 }
 
 pub table :
@@ -125,5 +125,5 @@ pub table :
     × (answeredWithin (bytes tooSmall) one two [] out ≡ record { answer = Answer.refused 14; lent = out })
     × (map (λ (e : Folding). inquired 2 (beforeFold e) (batchOf e)) foldings ≡ map (λ (e : Folding). e .inquiry) foldings)
     × (committed 2 (beforeFold firstFolding) (batchOf firstFolding) ≡ afterFold)
-unfolding readMessage readRanges readRange readBound readCoded readPrefix readPayload readOfMode readIds readVarint readDigits readBytes key bigEndian idSpace writeMessage tidy prepend isSkip spellMessage spellRanges spellRange spellBound spellPrefix spellPayload spellVarint digitsBefore flatten sizes split shared shortest innerBound fingerprintRanges cut items idsIn zipWith littleEndian total labelOf lowBytes hashed fingerprintOf L.fingerprint digest keep every rising keyOf wrongSize notRising within outsideLimits some same overwrite eachRange compare treat reply otherVersion answeredWithin wrongBuffers wrongContents firstQuery openingLeaves begin openedWithin nextQuery written unlisted marksAfter unowned insert neededAfter takeLeaves conclude takenWithin belowLeast exceeds largest runEnd closed fits longest firstIds mostIds partOf shortened limited sentMessage numbered spellLabel readLabel depthFrom depthOf places sums levels spellLabels treeOver wrongTree labelAt putLabel renew renewAbove build noneFree appended append visit depthIn labelOfRun L.add cannotHold wrongNeeded sameItem notDue judgeFold enter Fold.merged stillNeeded laid commitLeaves inquired committed
+unfolding readMessage readRanges readRange readBound readCoded readPrefix readPayload readOfMode readIds readVarint readDigits readBytes key bigEndian idSpace writeMessage tidy prepend isSkip spellMessage spellRanges spellRange spellBound spellPrefix spellPayload spellVarint digitsBefore flatten sizes split shared shortest innerBound fingerprintRanges cut items idsIn zipWith littleEndian total labelOf lowBytes hashed fingerprintOf L.fingerprint digest keep every rising keyOf wrongSize notRising within outsideLimits some same overwrite eachRange compare treat reply otherVersion answeredWithin wrongBuffers wrongContents firstQuery openingLeaves begin openedWithin nextQuery written unlisted marksAfter unowned insert neededAfter takeLeaves conclude takenWithin belowLeast exceeds largest runEnd closed fits longest firstIds mostIds partOf shortened limited sentMessage numbered spellLabel readLabel depthFrom depthOf places sums levels spellLabels treeOver wrongTree labelAt putLabel renew renewAbove build noneFree appended append visit depthIn labelOfRun L.add cannotHold wrongNeeded sameItem notDue judgeFold enter Fold.merged stillNeeded laid commitLeaves inquired committed otherLabel sameLabel
 table = (refl, refl, refl, refl, refl, refl, refl, refl, refl, refl, refl, refl, refl, refl, refl, refl, refl, refl, refl, refl, refl, refl, refl, refl, refl, refl, refl)

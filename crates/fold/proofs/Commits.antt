@@ -197,11 +197,11 @@ module _ (s : State) (c : Commit) where
         let room = needed-fits l (w .checks .list) .room in
         all-keep (λ (d : List ℕ). length d ≡ 32) (λ d. not (some (same d) (idsOf b))) (neededIds l) (ids-are-whole (l .session .needed) (l .needed) (omega arith))
 
-    next-list : next s c .needed ≡ flatten still
+    pub next-list : next s c .needed ≡ flatten still
     unfolding commitLeaves
     next-list = rw (w .left) (overwrite-front (flatten still) (l .needed) (32 * length still) (whole-length still still-whole))
 
-    next-count : next s c .session .needed ≡ length still
+    pub next-count : next s c .session .needed ≡ length still
     unfolding commitLeaves
     next-count = ap (λ (l : Lent). l .session .needed) (w .left)
 

@@ -10,6 +10,7 @@ use Rattle.message.specs.Bound.{bigEndian, idSpace, key, readPrefix, readCoded,
 use Rattle.message.specs.Message.{readIds, readOfMode, readPayload, readRange, readRanges, readMessage, spellPayload, spellRange, spellRanges, spellMessage}
 use Rattle.message.specs.Meaning.{isSkip, prepend, tidy, writeMessage}
 use Rattle.theory.specs.Rounds.{toLast}
+use Rattle.label.specs.Label.{littleEndian, total, labelOf, sameLabel}
 use Rattle.table.specs.Lists.{keep, every, rising}
 use Rattle.table.specs.Table.{keyOf, items, wrongSize, notRising, within}
 use Rattle.cutting.specs.Cutting.{outsideLimits, cut}
@@ -18,10 +19,10 @@ use Rattle.ends.specs.Lists.{some, same, overwrite}
 use Rattle.ends.specs.Calls.{eachRange}
 use Rattle.ends.specs.Responder as responder
 use Rattle.ends.specs.Responder.{treat, otherVersion, answeredWithin}
-use Rattle.ends.specs.Opener.{wrongBuffers, wrongContents, firstQuery, openingLeaves, begin, openedWithin, nextQuery, written, unlisted, marksAfter, unowned, insert, neededAfter, takeLeaves, conclude, takenWithin}
+use Rattle.ends.specs.Opener.{wrongBuffers, wrongContents, otherLabel, firstQuery, openingLeaves, begin, openedWithin, nextQuery, written, unlisted, marksAfter, unowned, insert, neededAfter, takeLeaves, conclude, takenWithin}
 use Rattle.ends.specs.Takes.{none, then-taken}
 use Rattle.ends.specs.Mixed.{AnswersWithin}
-use Rattle.ends.specs.Instance.{starting, ours, theirs, two, lent, query, reply, take₃}
+use Rattle.ends.specs.Instance.{starting, ours, theirs, two, lent, query, reply, handedWith}
 use Rattle.ends.proofs.Instance as ends
 use Rattle.ends.proofs.Instance.{not-both, none-collides}
 use Rattle.fold.specs.Fold.{cannotHold, wrongNeeded, sameItem, notDue, judgeFold, enter, merged, stillNeeded, laid, commitLeaves, committed}
@@ -37,7 +38,7 @@ record Met : Type 0 where
   comes-to : ComesTo
 
 met : Met
-unfolding readMessage readRanges readRange readBound readCoded readPrefix readPayload readOfMode readIds readVarint readDigits readBytes key bigEndian idSpace writeMessage tidy prepend isSkip spellMessage spellRanges spellRange spellBound spellPrefix spellPayload spellVarint digitsBefore flatten cut items idsIn zipWith keep every rising keyOf wrongSize notRising within outsideLimits some same overwrite eachRange treat responder.reply otherVersion answeredWithin wrongBuffers wrongContents firstQuery openingLeaves begin openedWithin nextQuery written unlisted marksAfter unowned insert neededAfter takeLeaves conclude takenWithin belowLeast limited sentMessage cannotHold wrongNeeded sameItem notDue judgeFold enter merged stillNeeded laid commitLeaves committed
+unfolding readMessage readRanges readRange readBound readCoded readPrefix readPayload readOfMode readIds readVarint readDigits readBytes key bigEndian idSpace writeMessage tidy prepend isSkip spellMessage spellRanges spellRange spellBound spellPrefix spellPayload spellVarint digitsBefore flatten cut items idsIn zipWith keep every rising keyOf wrongSize notRising within outsideLimits some same overwrite eachRange treat responder.reply otherVersion answeredWithin wrongBuffers wrongContents firstQuery openingLeaves begin openedWithin nextQuery written unlisted marksAfter unowned insert neededAfter takeLeaves conclude takenWithin belowLeast limited sentMessage cannotHold wrongNeeded sameItem notDue judgeFold enter merged stillNeeded laid commitLeaves committed otherLabel sameLabel labelOf total littleEndian
 met =
     let answers : AnswersWithin ours theirs two two unlimited toLast query reply = record { out = replicate 37 0; size = 37; unrefused = refl; written = refl } in
     record {
@@ -46,7 +47,7 @@ met =
         theirs-bytes = ends.asked .theirs-bytes;
         once = ends.asked .once;
         opens = refl;
-        takes = then-taken none (record { handed = take₃; limit = unlimited; odd = toLast }) 0 refl (List·Memᴰ·head refl) (unlimited, toLast, answers);
+        takes = then-taken none (handedWith ours) 0 refl (List·Memᴰ·head refl) (λ e. refl, (unlimited, toLast, answers));
         done = refl;
         none-collides = none-collides ours theirs last query reply refl (starting 0x01 ∷ [], refl) (starting 0x02 ∷ [], refl);
         as-held = (λ m e. not-both e, (λ m e i z. z, (λ m e. not-both e, tt)));

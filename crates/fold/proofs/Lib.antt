@@ -4,6 +4,7 @@
 -- Agreement  the inquiry and the commit agree, `inquiry-agrees`; what a commit leaves passes the checks of the next one, `commit-passes`
 -- Needed     which ids are needed after commits, `needed-after-commits`
 -- Union      our table is the union of both, `union-after-commits`; where no id is needed any more, all was delivered, `delivered-told`
+-- Converted  after commits, too, the conversion gives the session back, `converted-after-commits`
 -- Instance   all that `UnionAfterCommits` asks for, met on bytes, and the union there: `asked`, `comes-to`, `is-union`
 pub mod Merging
 pub mod Laying
@@ -11,4 +12,5 @@ pub mod Commits
 pub mod Agreement
 pub mod Needed
 pub mod Union
+pub mod Converted
 pub mod Instance

@@ -80,12 +80,12 @@ stillNeeded batch needed = keep (λ d. not (some (same d) (idsOf batch))) needed
 unfoldable pub laid : List Item → Table → Table
 laid is T = record { times = overwrite (map (λ (i : Item). i .time) is) (T .times); ids = overwrite (flatten (idsOf is)) (T .ids) }
 
--- What a commit leaves, by our items and the needed ids afterwards. SPEC 13.4: "The session keeps the count of its marks and is done; its count of needed ids is that of
--- the shorter list." SPEC 13.5: so do "needed bytes behind the shorter list".
+-- What a commit leaves, by our items and the needed ids afterwards. SPEC 13.4: "The session keeps the count of its marks and its label, and is done; its count of
+-- needed ids is that of the shorter list." SPEC 13.5: so do "needed bytes behind the shorter list".
 unfoldable pub commitLeaves : List Item → List (List ℕ) → Lent → Lent
 commitLeaves own needed l = record {
   table = laid own (l .table);
-  session = record { marked = l .session .marked; needed = length needed; done = l .session .done };
+  session = record { marked = l .session .marked; needed = length needed; done = l .session .done; label = l .session .label };
   needed = overwrite (flatten needed) (l .needed);
 }
 

@@ -13,7 +13,7 @@ use Rattle.fold.specs.Union.{Asked, Delivered, Union, afterTakes}
 -- what the takes come to: 01 is marked, 02 is needed
 abbrev pub last : Place
 last = record {
-  session = record { marked = 1; needed = 1; done = true };
+  session = record { marked = 1; needed = 1; done = true; label = record { sum = 0x01; count = 1 } };
   marks = 1 ∷ [];
   needed = starting 0x02;
   sent = query ∷ [];
@@ -40,7 +40,7 @@ DeliveredHere = Delivered (afterTakes ours last) commits
 abbrev pub both : State
 both = record {
   table = record { times = 5 ∷ 6 ∷ []; ids = starting 0x01 ++ starting 0x02 };
-  session = record { marked = 1; needed = 0; done = true };
+  session = record { marked = 1; needed = 0; done = true; label = record { sum = 0x01; count = 1 } };
   needed = [];
 }
 

@@ -35,7 +35,7 @@ module _ (n : ℕ) (l : Lent) (B : Table) where
     pub commit-is : (t : Table) → t ≡ laid (merged (ownItems n l) (items B)) (l .table) → (needed : List ℕ) → needed ≡ overwrite (flatten left) (l .needed)
         → committed n l B ≡ record {
           answer = answer (n + length (B .times));
-          lent = record { table = t; session = record { marked = l .session .marked; needed = length left; done = l .session .done }; needed = needed };
+          lent = record { table = t; session = record { marked = l .session .marked; needed = length left; done = l .session .done; label = l .session .label }; needed = needed };
         }
     unfolding committed commitLeaves
     commit-is t e needed f = rw (judge-due n l B _ d, items-length B, still-is B (neededIds l), e, f) refl

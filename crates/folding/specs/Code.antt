@@ -4,6 +4,7 @@ use mathlib.Core.Bool.{Bool}
 use mathlib.Core.List.{List}
 use Rattle.table.specs.Answer.{Answer, answer, refused}
 use Rattle.table.specs.Code.{numberOf, lent}
+use Rattle.label.specs.Label.{Label}
 use Rattle.fold.specs.Fold.{Lent}
 use Rattle.folding.specs.declared.Inquiry.{Inquiry}
 use Rattle.folding.specs.declared.Outcome.{Outcome}
@@ -24,6 +25,10 @@ neededBy before (Outcome.Merged count needed) = needed
 neededBy before (Outcome.Refused k) = before
 
 -- What is lent: the two slices of the table, the needed list, and what the session says. SPEC 13.6: "Neither is handed the marks or judges their count": the code is not
--- given it.
-abbrev pub lentTo : List ℕ → List ℕ → List ℕ → ℕ → ℕ → Bool → Lent
-lentTo times ids list marked needed done = record { table = lent times ids; session = record { marked = marked; needed = needed; done = done }; needed = list }
+-- given it. Nor is it given the label, which no check of these calls compares (SPEC 8.1).
+abbrev pub lentTo : List ℕ → List ℕ → List ℕ → ℕ → Label → ℕ → Bool → Lent
+lentTo times ids list marked label needed done = record {
+  table = lent times ids;
+  session = record { marked = marked; needed = needed; done = done; label = label };
+  needed = list;
+}

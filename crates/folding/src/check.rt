@@ -16,6 +16,7 @@ ghost use Rattle.table.specs.Lists.{rising};
 ghost use Rattle.table.specs.Table.{wrongSize, notRising};
 ghost use Rattle.table.specs.Code.{checkedOf, lent};
 ghost use Rattle.fold.specs.Fold.{front, cannotHold, wrongNeeded};
+ghost use Rattle.label.specs.Label.{Label};
 ghost use Rattle.folding.specs.Code.{lentTo};
 
 // Whether buffers of so many times and id bytes hold n items, and these are not too many.
@@ -96,7 +97,7 @@ fn needed_fits(needed: &[u8], size: usize) -> bool
 
 // Checks 4 and 15: the needed list of `size` ids, and whether the session is done.
 pub(crate) fn check_list(needed: &[u8], size: usize, done: bool) -> Checked
-    ensures { λ r. ⌜ ((times ids : List ℕ) (marked : ℕ) → checkedOf r ≡ refuseIf 4 (wrongNeeded (lentTo times ids (now (needed .entry)) marked size done)) (refuseIf 15 (not done) (answer tt))) ⌝ }
+    ensures { λ r. ⌜ ((times ids : List ℕ) (marked : ℕ) (label : Label) → checkedOf r ≡ refuseIf 4 (wrongNeeded (lentTo times ids (now (needed .entry)) marked label size done)) (refuseIf 15 (not done) (answer tt))) ⌝ }
 {
     if !needed_fits(needed, size) {
         return Checked::Refused {

@@ -1,5 +1,6 @@
 // The calls that fold a batch into the opener's table once a session is done: items enter the table, and their ids leave the needed list. Neither has a `requires`: what is
-// wrong with what it is lent, it answers with the number of the refusal, and then nothing has changed. The count of the marks is not handed over, and stays what it is.
+// wrong with what it is lent, it answers with the number of the refusal, and then nothing has changed. The count of the marks and the label are not handed
+// over, and stay what they are.
 use crate::check::check_list;
 use crate::check::check_tables;
 use crate::check::holds;
@@ -24,6 +25,7 @@ ghost use Rattle.table.specs.Private.{Passed};
 ghost use Rattle.ends.specs.Lists.{some};
 ghost use Rattle.fold.specs.Fold.{front, cannotHold, notDue, stillNeeded, inquired, committed};
 ghost use Rattle.removal.specs.Removing.{Marked};
+ghost use Rattle.label.specs.Label.{Label};
 ghost use Rattle.folding.specs.Code.{inquiryOf, outcomeOf, neededBy, lentTo};
 
 mod check;
@@ -96,7 +98,7 @@ fn inquire_with(
     marks: &mut [u8],
 ) -> Inquiry
     requires { ⌜ (0 < length (now ends)) × (0 < length (now marks)) ⌝ }
-    ensures { λ r. ⌜ ((marked : ℕ) → inquired count (lentTo (now (times .entry)) (now (ids .entry)) (now (needed .entry)) marked size done) (lent (now (fresh .entry)) (now (freshids .entry))) ≡ inquiryOf r) ⌝ }
+    ensures { λ r. ⌜ ((marked : ℕ) (label : Label) → inquired count (lentTo (now (times .entry)) (now (ids .entry)) (now (needed .entry)) marked label size done) (lent (now (fresh .entry)) (now (freshids .entry))) ≡ inquiryOf r) ⌝ }
     ensures { λ r. ⌜ ((entering staying : ℕ) → r ≡ Inquiry.Counted entering staying → Marked (idsIn (length (now (fresh .entry))) (now (freshids .entry))) (now (needed .entry)) size (now (marks .exit))) ⌝ }
 {
     match check_tables(times, ids, count, fresh, freshids) {
@@ -129,7 +131,7 @@ fn inquire_few(
     fresh: &[u64],
     freshids: &[u8],
 ) -> Inquiry
-    ensures { λ r. ⌜ ((marked : ℕ) → inquired count (lentTo (now (times .entry)) (now (ids .entry)) (now (needed .entry)) marked size done) (lent (now (fresh .entry)) (now (freshids .entry))) ≡ inquiryOf r) ⌝ }
+    ensures { λ r. ⌜ ((marked : ℕ) (label : Label) → inquired count (lentTo (now (times .entry)) (now (ids .entry)) (now (needed .entry)) marked label size done) (lent (now (fresh .entry)) (now (freshids .entry))) ≡ inquiryOf r) ⌝ }
 {
     let mut ends = [0u32; 128];
     let mut marks = [0u8; 128];
@@ -158,7 +160,7 @@ fn inquire_many(
     fresh: &[u64],
     freshids: &[u8],
 ) -> Inquiry
-    ensures { λ r. ⌜ ((marked : ℕ) → inquired count (lentTo (now (times .entry)) (now (ids .entry)) (now (needed .entry)) marked size done) (lent (now (fresh .entry)) (now (freshids .entry))) ≡ inquiryOf r) ⌝ }
+    ensures { λ r. ⌜ ((marked : ℕ) (label : Label) → inquired count (lentTo (now (times .entry)) (now (ids .entry)) (now (needed .entry)) marked label size done) (lent (now (fresh .entry)) (now (freshids .entry))) ≡ inquiryOf r) ⌝ }
 {
     let mut ends = [0u32; 16384];
     let mut marks = [0u8; 131072];
@@ -187,7 +189,7 @@ pub fn inquire(
     fresh: &[u64],
     freshids: &[u8],
 ) -> Inquiry
-    ensures { λ r. ⌜ ((marked : ℕ) → inquired count (lentTo (now (times .entry)) (now (ids .entry)) (now (needed .entry)) marked size done) (lent (now (fresh .entry)) (now (freshids .entry))) ≡ inquiryOf r) ⌝ }
+    ensures { λ r. ⌜ ((marked : ℕ) (label : Label) → inquired count (lentTo (now (times .entry)) (now (ids .entry)) (now (needed .entry)) marked label size done) (lent (now (fresh .entry)) (now (freshids .entry))) ≡ inquiryOf r) ⌝ }
 {
     if size <= 1024 {
         return inquire_few(times, ids, count, needed, size, done, fresh, freshids);
@@ -209,7 +211,7 @@ fn commit_with(
     marks: &mut [u8],
 ) -> Outcome
     requires { ⌜ (0 < length (now ends)) × (0 < length (now marks)) ⌝ }
-    ensures { λ r. ⌜ ((marked : ℕ) → committed count (lentTo (now (times .entry)) (now (ids .entry)) (now (needed .entry)) marked size done) (lent (now (fresh .entry)) (now (freshids .entry))) ≡ record { answer = outcomeOf r; lent = lentTo (now (times .exit)) (now (ids .exit)) (now (needed .exit)) marked (neededBy size r) done }) ⌝ }
+    ensures { λ r. ⌜ ((marked : ℕ) (label : Label) → committed count (lentTo (now (times .entry)) (now (ids .entry)) (now (needed .entry)) marked label size done) (lent (now (fresh .entry)) (now (freshids .entry))) ≡ record { answer = outcomeOf r; lent = lentTo (now (times .exit)) (now (ids .exit)) (now (needed .exit)) marked label (neededBy size r) done }) ⌝ }
 {
     match inquire_with(
         times,
@@ -249,7 +251,7 @@ fn commit_few(
     fresh: &[u64],
     freshids: &[u8],
 ) -> Outcome
-    ensures { λ r. ⌜ ((marked : ℕ) → committed count (lentTo (now (times .entry)) (now (ids .entry)) (now (needed .entry)) marked size done) (lent (now (fresh .entry)) (now (freshids .entry))) ≡ record { answer = outcomeOf r; lent = lentTo (now (times .exit)) (now (ids .exit)) (now (needed .exit)) marked (neededBy size r) done }) ⌝ }
+    ensures { λ r. ⌜ ((marked : ℕ) (label : Label) → committed count (lentTo (now (times .entry)) (now (ids .entry)) (now (needed .entry)) marked label size done) (lent (now (fresh .entry)) (now (freshids .entry))) ≡ record { answer = outcomeOf r; lent = lentTo (now (times .exit)) (now (ids .exit)) (now (needed .exit)) marked label (neededBy size r) done }) ⌝ }
 {
     let mut ends = [0u32; 128];
     let mut marks = [0u8; 128];
@@ -278,7 +280,7 @@ fn commit_many(
     fresh: &[u64],
     freshids: &[u8],
 ) -> Outcome
-    ensures { λ r. ⌜ ((marked : ℕ) → committed count (lentTo (now (times .entry)) (now (ids .entry)) (now (needed .entry)) marked size done) (lent (now (fresh .entry)) (now (freshids .entry))) ≡ record { answer = outcomeOf r; lent = lentTo (now (times .exit)) (now (ids .exit)) (now (needed .exit)) marked (neededBy size r) done }) ⌝ }
+    ensures { λ r. ⌜ ((marked : ℕ) (label : Label) → committed count (lentTo (now (times .entry)) (now (ids .entry)) (now (needed .entry)) marked label size done) (lent (now (fresh .entry)) (now (freshids .entry))) ≡ record { answer = outcomeOf r; lent = lentTo (now (times .exit)) (now (ids .exit)) (now (needed .exit)) marked label (neededBy size r) done }) ⌝ }
 {
     let mut ends = [0u32; 16384];
     let mut marks = [0u8; 131072];
@@ -308,7 +310,7 @@ pub fn commit(
     fresh: &[u64],
     freshids: &[u8],
 ) -> Outcome
-    ensures { λ r. ⌜ ((marked : ℕ) → committed count (lentTo (now (times .entry)) (now (ids .entry)) (now (needed .entry)) marked size done) (lent (now (fresh .entry)) (now (freshids .entry))) ≡ record { answer = outcomeOf r; lent = lentTo (now (times .exit)) (now (ids .exit)) (now (needed .exit)) marked (neededBy size r) done }) ⌝ }
+    ensures { λ r. ⌜ ((marked : ℕ) (label : Label) → committed count (lentTo (now (times .entry)) (now (ids .entry)) (now (needed .entry)) marked label size done) (lent (now (fresh .entry)) (now (freshids .entry))) ≡ record { answer = outcomeOf r; lent = lentTo (now (times .exit)) (now (ids .exit)) (now (needed .exit)) marked label (neededBy size r) done }) ⌝ }
 {
     if size <= 1024 {
         return commit_few(times, ids, count, needed, size, done, fresh, freshids);

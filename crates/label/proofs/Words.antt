@@ -1,5 +1,6 @@
 -- Numbers in bytes and in words of 64 bits, the least significant first.
 use mathlib.Core.Path.{_≡_, refl, sym, ap, ap₂, _∙_}
+use mathlib.Core.Bool.{false}
 use mathlib.Core.List.{List, [], _∷_, _++_}
 use Prim.Native.Nat.{ℕ, zero, suc, _+_, _*_, _%_, _^_, _≤_, _<_}
 use native.Mathlib.Nat as N
@@ -7,8 +8,11 @@ use native.Mathlib.Nat.{mul-comm, mul-assoc, mul-left-comm, one-mul, pow-suc, ad
 use native.Mathlib.Numerals.{towards-suc}
 use native.Mathlib.Omega.{arith}
 use lib.Arith.{digits-mod}
+use lib.Dec.{eqb}
 use lib.ListN.{length, getD, take, drop, length-drop}
 use lib.Seq.{drop-cons, take-add, length-take-le, drop-drop}
+use borrow.Author.Tests.{eqb-true, eqb-false, eq-eqb, ne-eqb}
+use Rattle.message.proofs.Exact.{byTest}
 use Rattle.label.specs.Label.{littleEndian}
 
 -- ---- numbers in bytes
@@ -55,6 +59,16 @@ word-lt m a h p q = omega arith
 
 four-lt : (a b c d : ℕ) → a < 2 ^ 64 → b < 2 ^ 64 → c < 2 ^ 64 → d < 2 ^ 64 → four a b c d < 2 ^ 256
 four-lt a b c d ha hb hc hd = word-lt (2 ^ 192) a _ ha (word-lt (2 ^ 128) b _ hb (word-lt (2 ^ 64) c d hc hd))
+
+-- two numbers compared from the lowest word on: the first words that differ decide
+pub word-differs : (a b x y : ℕ) → a < 2 ^ 64 → b < 2 ^ 64 → (a ≡ b → ⊥) → eqb (a + 2 ^ 64 * x) (b + 2 ^ 64 * y) ≡ false
+word-differs a b x y ha hb h = ne-eqb (a + 2 ^ 64 * x) (b + 2 ^ 64 * y) (λ e. h (omega arith))
+
+pub word-level : (a b x y : ℕ) → a ≡ b → eqb (a + 2 ^ 64 * x) (b + 2 ^ 64 * y) ≡ eqb x y
+word-level a b x y e =
+    byTest (eqb x y)
+    (λ t. let same = eqb-true x y t in eq-eqb (a + 2 ^ 64 * x) (b + 2 ^ 64 * y) (omega arith) ∙ sym t)
+    (λ f. let other = eqb-false x y f in ne-eqb (a + 2 ^ 64 * x) (b + 2 ^ 64 * y) (λ g. other (omega arith)) ∙ sym f)
 
 -- the number of 32 bytes is that of their four words
 pub words-are : (l : List ℕ) (a b c d : ℕ) → 32 ≤ length l

@@ -1,6 +1,7 @@
 // Labels of ranges of items: the sum of their ids modulo 2^256 and how many there are. And the fingerprint of a label.
 use crate::word::add_words;
 use crate::word::first_half;
+use crate::word::same_words;
 use crate::word::word_at;
 use crate::word::words_at_start;
 use crate::word::write_word;
@@ -79,6 +80,18 @@ impl Label {
             i += 1;
         }
         label
+    }
+
+    // Whether two labels are the same.
+    pub fn same(self, other: Label) -> bool
+        ensures { λ r. ⌜ r ≡ spec.sameLabel (labelIn self) (labelIn other) ⌝ }
+    {
+        let a = self.sum;
+        let b = other.sum;
+        if !same_words(a, b) {
+            return false;
+        }
+        self.count == other.count
     }
 
     // The fingerprint: what is hashed are the sum, least significant byte first, and the count as a varint.

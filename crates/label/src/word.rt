@@ -2,6 +2,7 @@
 use std::num::wrapping_add_u64;
 ghost use mathlib.Core.Path.{_≡_};
 ghost use Prim.Native.Nat.{_+_, _*_, _^_, _≤_, _<_};
+ghost use lib.Dec.{eqb};
 ghost use lib.ListN.{length, take, drop};
 ghost use Rattle.writer.specs.Writing.{lay};
 ghost use Rattle.label.specs.Label.{littleEndian, lowBytes};
@@ -79,6 +80,22 @@ pub(crate) fn words_at_start(s: &[u8]) -> [u64; 4]
     ensures { λ r. ⌜ sumIn r ≡ littleEndian (take 32 (now (s .entry))) ⌝ }
 {
     [word_at(s, 0), word_at(s, 8), word_at(s, 16), word_at(s, 24)]
+}
+
+// Whether two numbers in four words are equal.
+pub(crate) fn same_words(a: [u64; 4], b: [u64; 4]) -> bool
+    ensures { λ r. ⌜ r ≡ eqb (sumIn a) (sumIn b) ⌝ }
+{
+    if a[0] != b[0] {
+        return false;
+    }
+    if a[1] != b[1] {
+        return false;
+    }
+    if a[2] != b[2] {
+        return false;
+    }
+    a[3] == b[3]
 }
 
 // The 32 bytes of four words at the start of `out`.

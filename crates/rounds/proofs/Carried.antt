@@ -19,13 +19,13 @@ use Rattle.table.specs.Lists.{keep, every, rising}
 use Rattle.table.specs.Table.{keyOf, items, wrongSize, notRising, within}
 use Rattle.sha256.specs.Fips180.{digest, blocks, pad, padding, compress, plus, rounds, round, T₁, T₂, K, schedule, extend, words, next}
 use Rattle.label.specs.Label as L
-use Rattle.label.specs.Label.{littleEndian, total, labelOf, lowBytes, hashed}
+use Rattle.label.specs.Label.{littleEndian, total, labelOf, lowBytes, hashed, sameLabel}
 use Rattle.cutting.specs.Cutting.{fingerprintOf, shared, shortest, outsideLimits, innerBound, fingerprintRanges, cut}
 use Rattle.limit.specs.Limit.{unlimited, belowLeast, exceeds, limited, sentMessage}
 use Rattle.ends.specs.Lists.{some, same, overwrite}
 use Rattle.ends.specs.Calls.{Result, eachRange}
 use Rattle.ends.specs.Responder.{compare, treat, reply, otherVersion, answeredWithin}
-use Rattle.ends.specs.Opener.{Lent, wrongBuffers, wrongContents, firstQuery, openingLeaves, begin, openedWithin, nextQuery, written, unlisted, marksAfter, unowned, insert, neededAfter, takeLeaves, conclude, takenWithin}
+use Rattle.ends.specs.Opener.{Lent, wrongBuffers, wrongContents, otherLabel, firstQuery, openingLeaves, begin, openedWithin, nextQuery, written, unlisted, marksAfter, unowned, insert, neededAfter, takeLeaves, conclude, takenWithin}
 use Rattle.ends.specs.Demand.{Place, behindCall}
 use Rattle.ends.specs.Takes.{lentAt, none, then-taken}
 use Rattle.ends.specs.Mixed.{by, openingWithin, AnswersWithin, Takes}
@@ -39,7 +39,7 @@ use Rattle.rounds.proofs.Mixed.{last-sent, answering, answers, behind, 
 abbrev leaving : ℕ → ℕ → ℕ → Bool → List ℕ → List ℕ → List ℕ → Result Lent
 leaving n marked needed done marks list out = record {
   answer = answer n;
-  lent = record { session = record { marked = marked; needed = needed; done = done }; marks = marks; needed = list; out = out };
+  lent = record { session = record { marked = marked; needed = needed; done = done; label = record { sum = 15; count = 5 } }; marks = marks; needed = list; out = out };
 }
 
 abbrev left₀ : Result Lent
@@ -77,7 +77,7 @@ record Calls : Type 0 where
   takes₃ : takenWithin unlimited ours two reply₃ (lentAt at₂ (take₃ .handed)) ≡ left₃
 
 calls : Calls
-unfolding readMessage readRanges readRange readBound readCoded readPrefix readPayload readOfMode readIds readVarint readDigits readBytes key bigEndian idSpace writeMessage tidy prepend isSkip spellMessage spellRanges spellRange spellBound spellPrefix spellPayload spellVarint digitsBefore flatten sizes split shared shortest innerBound fingerprintRanges cut items idsIn zipWith littleEndian total labelOf lowBytes hashed fingerprintOf L.fingerprint digest blocks pad padding compress plus rounds round T₁ T₂ K schedule extend words next keep every rising keyOf wrongSize notRising within outsideLimits some same overwrite eachRange compare treat reply otherVersion answeredWithin wrongBuffers wrongContents firstQuery openingLeaves begin openedWithin nextQuery written unlisted marksAfter unowned insert neededAfter takeLeaves conclude takenWithin belowLeast limited sentMessage
+unfolding readMessage readRanges readRange readBound readCoded readPrefix readPayload readOfMode readIds readVarint readDigits readBytes key bigEndian idSpace writeMessage tidy prepend isSkip spellMessage spellRanges spellRange spellBound spellPrefix spellPayload spellVarint digitsBefore flatten sizes split shared shortest innerBound fingerprintRanges cut items idsIn zipWith littleEndian total labelOf lowBytes hashed fingerprintOf L.fingerprint digest blocks pad padding compress plus rounds round T₁ T₂ K schedule extend words next keep every rising keyOf wrongSize notRising within outsideLimits some same overwrite eachRange compare treat reply otherVersion answeredWithin wrongBuffers wrongContents firstQuery openingLeaves begin openedWithin nextQuery written unlisted marksAfter unowned insert neededAfter takeLeaves conclude takenWithin belowLeast limited sentMessage otherLabel sameLabel
 calls = record { other-query = refl; other-reply = refl; opens = refl; answers₁ = refl; takes₁ = refl; answers₂ = refl; takes₂ = refl; answers₃ = refl; takes₃ = refl }
 
 pub only-former : OnlyFormer
@@ -129,15 +129,15 @@ sentAt p = p .sent
 
 takes₁ : Takes ours theirs former two unlimited lent place₁
 takes₁ =
-    then-taken none take₁ 43 (answered ours theirs former two is₀ take₁ (calls .takes₁)) (last-sent (ap sentAt is₀)) (unlimited, toFirst, replied₁)
+    then-taken none take₁ 43 (answered ours theirs former two is₀ take₁ (calls .takes₁)) (last-sent (ap sentAt is₀)) (λ e. refl, (unlimited, toFirst, replied₁))
 
 takes₂ : Takes ours theirs former two unlimited lent place₂
 takes₂ =
-    then-taken takes₁ take₂ 42 (answered ours theirs former two is₁ take₂ (calls .takes₂)) (last-sent (ap sentAt is₁)) (unlimited, toLast, replied₂)
+    then-taken takes₁ take₂ 42 (answered ours theirs former two is₁ take₂ (calls .takes₂)) (last-sent (ap sentAt is₁)) (λ e. refl, (unlimited, toLast, replied₂))
 
 takes₃ : Takes ours theirs former two unlimited lent place₃
 takes₃ =
-    then-taken takes₂ take₃ 0 (answered ours theirs former two is₂ take₃ (calls .takes₃)) (last-sent (ap sentAt is₂)) (unlimited, toLast, replied₃)
+    then-taken takes₂ take₃ 0 (answered ours theirs former two is₂ take₃ (calls .takes₃)) (last-sent (ap sentAt is₂)) (λ e. refl, (unlimited, toLast, replied₃))
 
 pub across-the-change : AcrossTheChange
 unfolding exceeds asked takes₁ takes₂ takes₃
@@ -174,9 +174,9 @@ late-takes : Takes ours theirs former two unlimited lent late₃
 late-takes =
     then-taken
     (then-taken
-    (then-taken takes₁ take₁ 43 (answered ours theirs former two is₁ take₁ (calls .takes₁)) (rw (ap sentAt is₁) (List·Memᴰ·tail (List·Memᴰ·head refl))) (unlimited, toFirst, replied₁))
-    take₂ 42 (answered ours theirs former two late-is₁ take₂ (calls .takes₂)) (last-sent (ap sentAt late-is₁)) (unlimited, toLast, replied₂))
-    take₃ 0 (answered ours theirs former two late-is₂ take₃ (calls .takes₃)) (last-sent (ap sentAt late-is₂)) (unlimited, toLast, replied₃)
+    (then-taken takes₁ take₁ 43 (answered ours theirs former two is₁ take₁ (calls .takes₁)) (rw (ap sentAt is₁) (List·Memᴰ·tail (List·Memᴰ·head refl))) (λ e. refl, (unlimited, toFirst, replied₁)))
+    take₂ 42 (answered ours theirs former two late-is₁ take₂ (calls .takes₂)) (last-sent (ap sentAt late-is₁)) (λ e. refl, (unlimited, toLast, replied₂)))
+    take₃ 0 (answered ours theirs former two late-is₂ take₃ (calls .takes₃)) (last-sent (ap sentAt late-is₂)) (λ e. refl, (unlimited, toLast, replied₃))
 
 pub late-asked : AskedUpTo late₃
 late-asked = asked late-takes

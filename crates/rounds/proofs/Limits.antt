@@ -19,13 +19,13 @@ use Rattle.table.specs.Lists.{keep, every, rising}
 use Rattle.table.specs.Table.{keyOf, items, wrongSize, notRising, within}
 use Rattle.sha256.specs.Fips180.{digest, blocks, pad, padding, compress, plus, rounds, round, T₁, T₂, K, schedule, extend, words, next}
 use Rattle.label.specs.Label as L
-use Rattle.label.specs.Label.{littleEndian, total, labelOf, lowBytes, hashed}
+use Rattle.label.specs.Label.{littleEndian, total, labelOf, lowBytes, hashed, sameLabel}
 use Rattle.cutting.specs.Cutting.{fingerprintOf, shared, shortest, outsideLimits, innerBound, fingerprintRanges, cut}
 use Rattle.limit.specs.Limit.{unlimited, bytes, belowLeast, exceeds, largest, runEnd, closed, fits, longest, firstIds, mostIds, partOf, shortened, limited, sentMessage}
 use Rattle.ends.specs.Lists.{some, same, overwrite}
 use Rattle.ends.specs.Calls.{Result, eachRange}
 use Rattle.ends.specs.Responder.{compare, treat, reply, otherVersion, answeredWithin}
-use Rattle.ends.specs.Opener.{Lent, wrongBuffers, wrongContents, firstQuery, openingLeaves, begin, openedWithin, nextQuery, written, unlisted, marksAfter, unowned, insert, neededAfter, takeLeaves, conclude, takenWithin}
+use Rattle.ends.specs.Opener.{Lent, wrongBuffers, wrongContents, otherLabel, firstQuery, openingLeaves, begin, openedWithin, nextQuery, written, unlisted, marksAfter, unowned, insert, neededAfter, takeLeaves, conclude, takenWithin}
 use Rattle.ends.specs.Demand.{Place, behindCall}
 use Rattle.ends.specs.Takes.{lentAt, none, then-taken}
 use Rattle.ends.specs.Mixed.{by, openingWithin, WholeQuery, Takes}
@@ -39,7 +39,7 @@ use Rattle.rounds.proofs.Mixed.{last-sent, answering, answers, behind, 
 abbrev leaving : ℕ → ℕ → ℕ → Bool → List ℕ → List ℕ → List ℕ → Result Lent
 leaving n marked needed done marks list out = record {
   answer = answer n;
-  lent = record { session = record { marked = marked; needed = needed; done = done }; marks = marks; needed = list; out = out };
+  lent = record { session = record { marked = marked; needed = needed; done = done; label = record { sum = 2080896; count = 128 } }; marks = marks; needed = list; out = out };
 }
 
 abbrev left₀ : Result Lent
@@ -77,7 +77,7 @@ record Calls : Type 0 where
   skips₂ : exceeds limit (writeMessage (nextQuery long (items ours) ranges₂)) ≡ false
 
 calls : Calls
-unfolding readMessage readRanges readRange readBound readCoded readPrefix readPayload readOfMode readIds readVarint readDigits readBytes key bigEndian idSpace writeMessage tidy prepend isSkip spellMessage spellRanges spellRange spellBound spellPrefix spellPayload spellVarint digitsBefore flatten sizes split shared shortest innerBound fingerprintRanges cut items idsIn zipWith littleEndian total labelOf lowBytes hashed fingerprintOf L.fingerprint digest blocks pad padding compress plus rounds round T₁ T₂ K schedule extend words next keep every rising keyOf wrongSize notRising within outsideLimits some same overwrite eachRange compare treat reply otherVersion answeredWithin wrongBuffers wrongContents firstQuery openingLeaves begin openedWithin nextQuery written unlisted marksAfter unowned insert neededAfter takeLeaves conclude takenWithin belowLeast exceeds largest runEnd closed fits longest firstIds mostIds partOf shortened limited sentMessage idsFrom
+unfolding readMessage readRanges readRange readBound readCoded readPrefix readPayload readOfMode readIds readVarint readDigits readBytes key bigEndian idSpace writeMessage tidy prepend isSkip spellMessage spellRanges spellRange spellBound spellPrefix spellPayload spellVarint digitsBefore flatten sizes split shared shortest innerBound fingerprintRanges cut items idsIn zipWith littleEndian total labelOf lowBytes hashed fingerprintOf L.fingerprint digest blocks pad padding compress plus rounds round T₁ T₂ K schedule extend words next keep every rising keyOf wrongSize notRising within outsideLimits some same overwrite eachRange compare treat reply otherVersion answeredWithin wrongBuffers wrongContents firstQuery openingLeaves begin openedWithin nextQuery written unlisted marksAfter unowned insert neededAfter takeLeaves conclude takenWithin belowLeast exceeds largest runEnd closed fits longest firstIds mostIds partOf shortened limited sentMessage idsFrom otherLabel sameLabel
 calls = record {
   cut-short = refl;
   opens = refl;
@@ -126,12 +126,12 @@ asked ρ = record {
 takes₁ : Takes ours theirs long two limit lent place₁
 takes₁ =
     then-taken none take₁ 47 (answered ours theirs long two is₀ take₁ (calls .takes₁)) (last-sent sent₀)
-    (limit, toFirst, answers ours theirs long two limit toFirst (replicate 78 0) (calls .answers₁) refl)
+    (λ e. refl, (limit, toFirst, answers ours theirs long two limit toFirst (replicate 78 0) (calls .answers₁) refl))
 
 takes₂ : Takes ours theirs long two limit lent place₂
 takes₂ =
     then-taken takes₁ take₂ 0 (answered ours theirs long two is₁ take₂ (calls .takes₂)) (last-sent sent₁)
-    (bytes 5000, toLast, answers ours theirs long two (bytes 5000) toLast (replicate 111 0) (calls .answers₂) refl)
+    (λ e. refl, (bytes 5000, toLast, answers ours theirs long two (bytes 5000) toLast (replicate 111 0) (calls .answers₂) refl))
 
 -- as whatever ranges the second reply is read, it is these
 whole-query₂ : WholeQuery ours theirs long two take₂

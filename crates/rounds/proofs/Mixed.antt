@@ -12,7 +12,7 @@ use Rattle.ends.specs.Responder.{answeredWithin}
 use Rattle.ends.specs.Opener.{Lent}
 use Rattle.ends.specs.Demand.{Place, hands, behindCall}
 use Rattle.ends.specs.Takes.{lentAt, called}
-use Rattle.ends.specs.Mixed.{by, AnyTake, handedTo, taking, AnswersWithin, Answered}
+use Rattle.ends.specs.Mixed.{by, AnyTake, handedTo, taking, AnswersWithin, Promised}
 use Rattle.ends.proofs.Mixed.{demand3-mixed}
 use Rattle.rounds.specs.Mixed.{after, Asked, Owed}
 
@@ -40,9 +40,9 @@ module _ (A B : Table) (a b : Cut) where
         ap (λ (z : Place). after A B a b z x) is
         ∙ ap (λ (z : Result Lent). behindCall z (at .sent) (hands (z .answer) (x .handed) ++ at .handed)) e
 
-    pub answered : called handedTo (taking A B a b) (Answered A B a b) p x .answer ≡ r .answer
+    pub answered : called handedTo (taking A B a b) (Promised A B a b) p x .answer ≡ r .answer
     answered =
-        ap (λ (z : Place). called handedTo (taking A B a b) (Answered A B a b) z x .answer) is
+        ap (λ (z : Place). called handedTo (taking A B a b) (Promised A B a b) z x .answer) is
         ∙ ap (λ (z : Result Lent). z .answer) e
 
   pub owed : (L : ℕ) (limit : Limit) {lent : Lent} {n : ℕ} {p : Place} (h : Asked A B a b L limit lent n p) → Owed A B a b L limit h

@@ -19,13 +19,13 @@ use Rattle.table.specs.Lists.{keep, every, rising}
 use Rattle.table.specs.Table.{keyOf, items, wrongSize, notRising, within}
 use Rattle.sha256.specs.Fips180.{digest, blocks, pad, padding, compress, plus, rounds, round, T₁, T₂, K, schedule, extend, words, next}
 use Rattle.label.specs.Label as L
-use Rattle.label.specs.Label.{littleEndian, total, labelOf, lowBytes, hashed}
+use Rattle.label.specs.Label.{littleEndian, total, labelOf, lowBytes, hashed, sameLabel}
 use Rattle.cutting.specs.Cutting.{fingerprintOf, shared, shortest, outsideLimits, innerBound, fingerprintRanges, cut}
 use Rattle.limit.specs.Limit.{belowLeast, limited, sentMessage}
 use Rattle.ends.specs.Lists.{some, same, overwrite}
 use Rattle.ends.specs.Calls.{Result, eachRange}
 use Rattle.ends.specs.Responder.{compare, treat, reply, otherVersion, answered, answeredWithin}
-use Rattle.ends.specs.Opener.{Lent, wrongBuffers, wrongContents, firstQuery, openingLeaves, begin, opened, openedWithin, nextQuery, written, unlisted, marksAfter, unowned, insert, neededAfter, takeLeaves, conclude, takenWithin}
+use Rattle.ends.specs.Opener.{Lent, wrongBuffers, wrongContents, otherLabel, firstQuery, openingLeaves, begin, opened, openedWithin, nextQuery, written, unlisted, marksAfter, unowned, insert, neededAfter, takeLeaves, conclude, takenWithin}
 use Rattle.ends.specs.Demand.{Take, Place, hands, behindCall, opening, call, run, Answers, HandedAnswers, Throughout}
 use Rattle.ends.specs.Instance.{starting, two}
 use Rattle.ends.proofs.Instance.{owed}
@@ -47,7 +47,7 @@ answering n out = record { answer = answer n; lent = out }
 abbrev leaving : Answer ℕ → List ℕ → List ℕ → Result Lent
 leaving a needed out = record {
   answer = a;
-  lent = record { session = record { marked = 0; needed = 0; done = false }; marks = 0 ∷ 0 ∷ 0 ∷ []; needed = needed; out = out };
+  lent = record { session = record { marked = 0; needed = 0; done = false; label = record { sum = 6; count = 3 } }; marks = 0 ∷ 0 ∷ 0 ∷ []; needed = needed; out = out };
 }
 
 abbrev at₀ : Place
@@ -69,7 +69,7 @@ abbrev left₅ : Result Lent
 left₅ = record {
   answer = answer 0;
   lent = record {
-    session = record { marked = 1; needed = 3; done = true };
+    session = record { marked = 1; needed = 3; done = true; label = record { sum = 6; count = 3 } };
     marks = 1 ∷ 0 ∷ 0 ∷ [];
     needed = starting 0x04 ++ (starting 0x05 ++ (starting 0x06 ++ replicate 32 0xCC));
     out = [];
@@ -87,7 +87,7 @@ record Calls : Type 0 where
   takes₅ : callAt at₄ take₅ ≡ left₅
 
 calls : Calls
-unfolding readMessage readRanges readRange readBound readCoded readPrefix readPayload readOfMode readIds readVarint readDigits readBytes key bigEndian idSpace writeMessage tidy prepend isSkip spellMessage spellRanges spellRange spellBound spellPrefix spellPayload spellVarint digitsBefore flatten sizes split shared shortest innerBound fingerprintRanges cut items idsIn zipWith littleEndian total labelOf lowBytes hashed fingerprintOf L.fingerprint digest blocks pad padding compress plus rounds round T₁ T₂ K schedule extend words next keep every rising keyOf wrongSize notRising within outsideLimits some same overwrite eachRange compare treat reply otherVersion answeredWithin wrongBuffers wrongContents firstQuery openingLeaves begin openedWithin nextQuery written unlisted marksAfter unowned insert neededAfter takeLeaves conclude takenWithin belowLeast limited sentMessage
+unfolding readMessage readRanges readRange readBound readCoded readPrefix readPayload readOfMode readIds readVarint readDigits readBytes key bigEndian idSpace writeMessage tidy prepend isSkip spellMessage spellRanges spellRange spellBound spellPrefix spellPayload spellVarint digitsBefore flatten sizes split shared shortest innerBound fingerprintRanges cut items idsIn zipWith littleEndian total labelOf lowBytes hashed fingerprintOf L.fingerprint digest blocks pad padding compress plus rounds round T₁ T₂ K schedule extend words next keep every rising keyOf wrongSize notRising within outsideLimits some same overwrite eachRange compare treat reply otherVersion answeredWithin wrongBuffers wrongContents firstQuery openingLeaves begin openedWithin nextQuery written unlisted marksAfter unowned insert neededAfter takeLeaves conclude takenWithin belowLeast limited sentMessage otherLabel sameLabel
 calls = record { opens = refl; answers₁ = refl; answers₂ = refl; takes₁ = refl; takes₂ = refl; takes₃ = refl; takes₄ = refl; takes₅ = refl }
 
 -- ---- the places

@@ -7,6 +7,7 @@ use Prim.Native.Nat.{ℕ}
 use lib.ListN.{length, replicate}
 use Rattle.message.specs.Meaning.{writeMessage}
 use Rattle.theory.specs.Rounds.{toFirst, toLast, Cut}
+use Rattle.label.specs.Label.{empty}
 use Rattle.table.specs.Table.{Table, items}
 use Rattle.limit.specs.Limit.{unlimited}
 use Rattle.ends.specs.Lists.{same}
@@ -37,7 +38,7 @@ abbrev pub former : Cut
 former = by toFirst two
 
 abbrev pub lent : Lent
-lent = record { session = record { marked = 0; needed = 0; done = false }; marks = replicate 5 0xEE; needed = []; out = replicate 40 0xEE }
+lent = record { session = record { marked = 0; needed = 0; done = false; label = empty }; marks = replicate 5 0xEE; needed = []; out = replicate 40 0xEE }
 
 -- ---- the messages
 
@@ -91,7 +92,7 @@ OnlyFormer =
 -- ---- the takes, all by 4.3
 
 abbrev pub carried : List ℕ → List ℕ → List ℕ → List ℕ → AnyTake
-carried query reply out behind = record { handed = record { query = query; reply = reply; out = out; behind = behind }; limit = unlimited; odd = toLast }
+carried query reply out behind = record { handed = record { query = query; reply = reply; out = out; behind = behind }; table = ours; limit = unlimited; odd = toLast }
 
 abbrev pub take₁ : AnyTake
 take₁ = carried query₁ reply₁ (replicate 43 0xDD) []
@@ -140,7 +141,7 @@ late₃ = after ours theirs former two late₂ take₃
 -- 01, 02 and 03 are marked, 06 to 0A are needed
 abbrev pub last : List (List ℕ) → List (List ℕ × List ℕ) → Place
 last sent handed = record {
-  session = record { marked = 3; needed = 5; done = true };
+  session = record { marked = 3; needed = 5; done = true; label = record { sum = 15; count = 5 } };
   marks = 1 ∷ 1 ∷ 1 ∷ 0 ∷ 0 ∷ [];
   needed = starting 0x06 ++ (starting 0x07 ++ (starting 0x08 ++ (starting 0x09 ++ starting 0x0A)));
   sent = sent;

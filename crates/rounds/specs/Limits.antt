@@ -7,6 +7,7 @@ use Prim.Native.Nat.{ℕ, zero, suc, _+_}
 use lib.ListN.{replicate}
 use Rattle.message.specs.Meaning.{writeMessage}
 use Rattle.theory.specs.Rounds.{toLast, Cut}
+use Rattle.label.specs.Label.{empty}
 use Rattle.table.specs.Table.{Table, items}
 use Rattle.limit.specs.Limit.{Limit, unlimited, bytes, exceeds}
 use Rattle.ends.specs.Opener.{Lent, firstQuery}
@@ -37,7 +38,7 @@ abbrev pub long : Cut
 long = record { parts = 2; limit = 128; odd = toLast }
 
 abbrev pub lent : Lent
-lent = record { session = record { marked = 0; needed = 0; done = false }; marks = replicate 128 0xEE; needed = []; out = replicate 4096 0xEE }
+lent = record { session = record { marked = 0; needed = 0; done = false; label = empty }; marks = replicate 128 0xEE; needed = []; out = replicate 4096 0xEE }
 
 -- ---- the messages
 
@@ -74,10 +75,10 @@ limit = bytes 4096
 
 -- without a limit, and with one again
 abbrev pub take₁ : AnyTake
-take₁ = record { handed = record { query = query₁; reply = reply₁; out = replicate 47 0xDD; behind = [] }; limit = unlimited; odd = toLast }
+take₁ = record { handed = record { query = query₁; reply = reply₁; out = replicate 47 0xDD; behind = [] }; table = ours; limit = unlimited; odd = toLast }
 
 abbrev pub take₂ : AnyTake
-take₂ = record { handed = record { query = query₂; reply = reply₂; out = []; behind = replicate 96 0xCC }; limit = limit; odd = toLast }
+take₂ = record { handed = record { query = query₂; reply = reply₂; out = []; behind = replicate 96 0xCC }; table = ours; limit = limit; odd = toLast }
 
 abbrev pub place₁ : Place
 place₁ = after ours theirs long two (openingWithin limit ours long lent) take₁
@@ -103,7 +104,7 @@ Second = (h : AskedUpTo place₂) × InRow ours theirs long two 0 limit h × All
 -- They come to this: all of ours but 01 05 are marked, 02, 03 and 04 are needed.
 abbrev pub last : Place
 last = record {
-  session = record { marked = 127; needed = 3; done = true };
+  session = record { marked = 127; needed = 3; done = true; label = record { sum = 2080896; count = 128 } };
   marks = replicate 5 1 ++ (0 ∷ replicate 122 1);
   needed = starting 0x02 ++ (starting 0x03 ++ starting 0x04);
   sent = query₂ ∷ query₁ ∷ [];

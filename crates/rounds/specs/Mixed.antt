@@ -11,12 +11,12 @@ use Rattle.limit.specs.Limit.{Limit}
 use Rattle.ends.specs.Opener.{Lent, openedWithin}
 use Rattle.ends.specs.Demand.{Place, OneTime, Smallest}
 use Rattle.ends.specs.Takes as T
-use Rattle.ends.specs.Mixed.{AnyTake, handedTo, taking, Answered, WholeReply, WholeQuery, WholeFirst, Takes}
+use Rattle.ends.specs.Mixed.{AnyTake, handedTo, taking, Promised, WholeReply, WholeQuery, WholeFirst, Takes}
 
 module _ (A B : Table) (a b : Cut) where
   -- the place behind a take
   abbrev pub after : Place → AnyTake → Place
-  after = T.next handedTo (taking A B a b) (Answered A B a b)
+  after = T.next handedTo (taking A B a b) (Promised A B a b)
 
   -- What is asked of L, of an opening that writes n bytes, and of the takes after it, up to the place p.
   pub record Asked (L : ℕ) (limit : Limit) (lent : Lent) (n : ℕ) (p : Place) : Type 0 where
@@ -30,12 +30,12 @@ module _ (A B : Table) (a b : Cut) where
   module _ (L : ℕ) (limit : Limit) {lent : Lent} {n : ℕ} {p : Place} (h : Asked L limit lent n p) where
     -- the list up to the place ends in a row of L + 1 takes
     abbrev pub InRow : Type 0
-    InRow = T.Row handedTo (taking A B a b) (Answered A B a b) (suc L) (h .takes)
+    InRow = T.Row handedTo (taking A B a b) (Promised A B a b) (suc L) (h .takes)
 
     -- in which nothing was cut short
     abbrev pub AllWhole : Type 0
-    AllWhole = T.Whole handedTo (taking A B a b) (Answered A B a b) (WholeFirst A B a b limit) (WholeReply A B a b) (WholeQuery A B a b) (suc L) (h .takes)
+    AllWhole = T.Whole handedTo (taking A B a b) (Promised A B a b) (WholeFirst A B a b limit) (WholeReply A B a b) (WholeQuery A B a b) (suc L) (h .takes)
 
     -- what is owed there
     abbrev pub Owed : Type 0
-    Owed = T.Owed handedTo (taking A B a b) (Answered A B a b) (WholeFirst A B a b limit) (WholeReply A B a b) (WholeQuery A B a b) A B L (h .takes)
+    Owed = T.Owed handedTo (taking A B a b) (Promised A B a b) (WholeFirst A B a b limit) (WholeReply A B a b) (WholeQuery A B a b) A B L (h .takes)

@@ -4,6 +4,7 @@ use mathlib.Core.Bool.{true, false}
 use mathlib.Core.List.{List, [], _∷_, _++_}
 use Prim.Native.Nat.{ℕ}
 use lib.ListN.{length, replicate}
+use Rattle.label.specs.Label.{empty}
 use Rattle.table.specs.Table.{Table}
 use Rattle.ends.specs.Opener.{Lent}
 use Rattle.ends.specs.Demand.{Take, Place, opening, run}
@@ -20,7 +21,7 @@ theirs = record {
 }
 
 abbrev pub lent : Lent
-lent = record { session = record { marked = 0; needed = 0; done = false }; marks = replicate 3 0xEE; needed = []; out = replicate 40 0xEE }
+lent = record { session = record { marked = 0; needed = 0; done = false; label = empty }; marks = replicate 3 0xEE; needed = []; out = replicate 40 0xEE }
 
 -- Up to time 5 and the prefix 02 the fingerprint of 01, then that of 02 and 03.
 abbrev pub query₁ : List ℕ
@@ -72,7 +73,7 @@ AskedHere = Asked ours theirs two two 1 lent (length query₁) takes
 -- and they come to this: 01 is marked, 04, 05 and 06 are needed
 abbrev pub last : Place
 last = record {
-  session = record { marked = 1; needed = 3; done = true };
+  session = record { marked = 1; needed = 3; done = true; label = record { sum = 6; count = 3 } };
   marks = 1 ∷ 0 ∷ 0 ∷ [];
   needed = starting 0x04 ++ (starting 0x05 ++ starting 0x06);
   sent = query₂ ∷ query₂ ∷ query₁ ∷ [];

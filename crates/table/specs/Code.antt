@@ -25,6 +25,7 @@ numberOf Refusal.ByteLimit = 14
 numberOf Refusal.SessionOpen = 15
 numberOf Refusal.NotDue = 16
 numberOf Refusal.TableFull = 17
+numberOf Refusal.OtherTable = 18
 
 abbrev pub checkedOf : Checked → Answer (Unit {0})
 checkedOf Checked.Passed = answer tt

@@ -44,6 +44,8 @@ pub enum Refusal {
     NotDue,
     // 17: the table's buffers cannot hold the merge, or it has too many items
     TableFull,
+    // 18: the label of the table is not that of the session
+    OtherTable,
 }
 
 impl Refusal {
@@ -69,6 +71,7 @@ impl Refusal {
             Refusal::SessionOpen => 15,
             Refusal::NotDue => 16,
             Refusal::TableFull => 17,
+            Refusal::OtherTable => 18,
         }
     }
 

@@ -4,6 +4,7 @@ use mathlib.Core.Bool.{false, not}
 use Prim.Native.Nat.{ℕ}
 use native.Mathlib.Omega.{arith}
 use borrow.Author.Needs.{needs}
+use Rattle.label.specs.Label.{Label, empty}
 use Rattle.table.specs.Code.{lent}
 use Rattle.table.specs.Table.{Table, wrongSize, notRising}
 use Rattle.table.proofs.Tests.{or-false}
@@ -22,29 +23,29 @@ T s = lent (s .args .times .now) (s .args .ids .now)
 abbrev B : tie.Start → Table
 B s = lent (s .args .fresh .now) (s .args .freshids .now)
 
-abbrev L : tie.Start → ℕ → Lent
-L s marked = lentTo (s .args .times .now) (s .args .ids .now) (s .args .needed .now) marked (s .args .size) (s .args .done)
+abbrev L : tie.Start → ℕ → Label → Lent
+L s marked label = lentTo (s .args .times .now) (s .args .ids .now) (s .args .needed .now) marked label (s .args .size) (s .args .done)
 
 -- checks 1 and 2 have shown
 module _ (c : tie.After-enum-told) where
   abbrev s : tie.Start
   s = c .before .before .before .before .before .before .before .before .before .before
 
-  tables : (sizes (s .args .count) (L s 0) (B s) ≡ false) × (orders (s .args .count) (L s 0) (B s) ≡ false)
+  tables : (sizes (s .args .count) (L s 0 empty) (B s) ≡ false) × (orders (s .args .count) (L s 0 empty) (B s) ≡ false)
   tables = both-passed 1 2 _ _ (rw (c .enum-told .given .1) at (c .before .before .check-tables .ensures))
 
 -- checks 4 and 15 have shown
-list : (c : tie.After-enum-told2) (marked : ℕ) → (wrongNeeded (L (c .before .before .before .before .before .before .before .before .before .before .before .before .before) marked) ≡ false) × (not (c .before .before .before .before .before .before .before .before .before .before .before .before .before .args .done) ≡ false)
-list c marked =
+list : (c : tie.After-enum-told2) (marked : ℕ) (label : Label) → (wrongNeeded (L (c .before .before .before .before .before .before .before .before .before .before .before .before .before) marked label) ≡ false) × (not (c .before .before .before .before .before .before .before .before .before .before .before .before .before .args .done) ≡ false)
+list c marked label =
     let a = c .before .before .before .before .before .before .before .before .before .before .before .before .before .args in
-    both-passed 4 15 _ _ (rw (c .enum-told2 .given .1) at (c .before .before .check-list .ensures (a .times .now) (a .ids .now) marked))
+    both-passed 4 15 _ _ (rw (c .enum-told2 .given .1) at (c .before .before .check-list .ensures (a .times .now) (a .ids .now) marked label))
 
 inquire-checked-requires : tie.Need-inquire-checked-requires
 inquire-checked-requires c κs =
     let s = c .before .before .before .before .before .before .before .before .before .before .before .before .before .before .before in
     let z = or-false (cannotHold (s .args .count) (T s)) (wrongSize (B s)) (tables (c .before .before .before .before .before) .0) in
     let o = or-false (notRising (front (s .args .count) (T s))) (notRising (B s)) (tables (c .before .before .before .before .before) .1) in
-    let f = needed-fits (L s 0) (list (c .before .before) 0 .0) in
+    let f = needed-fits (L s 0 empty) (list (c .before .before) 0 empty .0) in
     (z .0, (front-right (s .args .count) (T s) (z .0), o .0), (z .1, o .1), f .room, f .rises, s .pre .0, s .pre .1)
 
 -- a refusal is no count
@@ -58,7 +59,7 @@ not-counted k r e entering staying f = let z : _≡_ {A = ℕ} 0 1 = ap counts (
 returns : tie.Need-returns
 returns c =
     let s = c .before .before .before .before .before .before .before .before .before .before .before .before in (
-      λ marked. rw (c .refuse .ensures) (tables-refuse (s .args .count) (L s marked) (B s) _ (rw (c .before .before .refusal .given .1) at (c .before .before .before .before .check-tables .ensures))),
+      λ marked label. rw (c .refuse .ensures) (tables-refuse (s .args .count) (L s marked label) (B s) _ (rw (c .before .before .refusal .given .1) at (c .before .before .before .before .check-tables .ensures))),
       λ entering staying e. absurd (not-counted _ (c .refuse .result) (c .refuse .ensures) entering staying e),
     )
 
@@ -66,8 +67,8 @@ returns-2 : tie.Need-returns-2
 returns-2 c =
     let s = c .before .before .before .before .before .before .before .before .before .before .before .before .before .before .before in
     let t = tables (c .before .before .before .before .before) in (
-      λ marked. rw (c .refuse2 .ensures)
-          (list-refuses (s .args .count) (L s marked) (B s) (t .0) (t .1) _ (rw (c .before .before .refusal2 .given .1) at (c .before .before .before .before .check-list .ensures (s .args .times .now) (s .args .ids .now) marked))),
+      λ marked label. rw (c .refuse2 .ensures)
+          (list-refuses (s .args .count) (L s marked label) (B s) (t .0) (t .1) _ (rw (c .before .before .refusal2 .given .1) at (c .before .before .before .before .check-list .ensures (s .args .times .now) (s .args .ids .now) marked label))),
       λ entering staying e. absurd (not-counted _ (c .refuse2 .result) (c .refuse2 .ensures) entering staying e),
     )
 
@@ -75,7 +76,7 @@ returns-3 : tie.Need-returns-3
 returns-3 c =
     let s = c .before .before .before .before .before .before .before .before .before .before .before .before .before .before .before .before .before .before .before .before in
     let t = tables (c .before .before .before .before .before .before .before .before .before .before) in (
-      λ marked. let f = list (c .before .before .before .before .before .before .before) marked in both-pass (s .args .count) (L s marked) (B s) (t .0) (t .1) (f .0) (f .1) ∙ c .before .before .before .before .inquire-checked .ensures .0,
+      λ marked label. let f = list (c .before .before .before .before .before .before .before) marked label in both-pass (s .args .count) (L s marked label) (B s) (t .0) (t .1) (f .0) (f .1) ∙ c .before .before .before .before .inquire-checked .ensures .0,
       λ entering staying e. c .before .before .before .before .inquire-checked .ensures .1,
     )
 

@@ -64,8 +64,8 @@ static inline size_t recon_tree_bytes(size_t items) {
 }
 
 /* The refusals: name, number, and what recon_strerror says of it. They are checked in the order of their numbers, save that 13 comes right
-   after 2, 14 right after 3, 15 and 16 right after 5, and 17 in the place of 11. Of a message: its first byte is 0x61, or 0x60 to 0x6F for an
-   answer (6), no varint starts with 0x80 (8), and no mode is above 2 (10). */
+   after 2, 14 right after 3, 18 right after 4, 15 and 16 right after 5, and 17 in the place of 11. Of a message: its first byte is 0x61, or 0x60 to
+   0x6F for an answer (6), no varint starts with 0x80 (8), and no mode is above 2 (10). */
 #define RECON_REFUSALS(REFUSAL) \
     REFUSAL(RECON_TABLE_SIZE, 1, "the id bytes are not 32 for each time, or there are more than 1,048,576 items") \
     REFUSAL(RECON_TABLE_ORDER, 2, "the items do not rise strictly by time and id, or a time is 2^64 - 1") \
@@ -83,7 +83,8 @@ static inline size_t recon_tree_bytes(size_t items) {
     REFUSAL(RECON_BYTE_LIMIT, 14, "the byte limit is below 4,096") \
     REFUSAL(RECON_SESSION_OPEN, 15, "the session is not done") \
     REFUSAL(RECON_NOT_DUE, 16, "an id of the batch is not on the needed list, or its item is already in the table") \
-    REFUSAL(RECON_TABLE_FULL, 17, "the table's buffers cannot hold the merge, or it exceeds 1,048,576 items")
+    REFUSAL(RECON_TABLE_FULL, 17, "the table's buffers cannot hold the merge, or it exceeds 1,048,576 items") \
+    REFUSAL(RECON_OTHER_TABLE, 18, "the table is not the one that the session was opened with")
 
 #define RECON_ENUMERATOR(name, number, text) name = number,
 enum { RECON_REFUSALS(RECON_ENUMERATOR) RECON_OK = 0 };
@@ -104,12 +105,27 @@ static inline const char *recon_strerror(uint64_t number) {
 }
 #undef RECON_CASE
 
-/* The opener's session. It goes with the marks and the needed list as the last call left them. */
+/* The label of some items. An id is summed as a number whose least significant byte is its first. That of no items
+   is the empty label, all 0. */
 typedef struct {
-    size_t marked; /* how many items have the mark 1 */
-    size_t needed; /* how many ids stand on the needed list: its bytes are 32 times as many */
-    bool done;     /* whether all is reported */
+    uint64_t sum[4]; /* the sum of their ids modulo 2^256, least significant word first */
+    uint64_t count;  /* how many they are */
+} recon_label;
+
+/* The opener's session. It goes with the marks and the needed list as the last call left them, and with the table of its opening. */
+typedef struct {
+    size_t marked;     /* how many items have the mark 1 */
+    size_t needed;     /* how many ids stand on the needed list: its bytes are 32 times as many */
+    bool done;         /* whether all is reported */
+    recon_label label; /* of the whole table at the opening */
 } recon_session;
+
+/* A session as it was before sessions had a label; recon_session_convert gives it one. */
+typedef struct {
+    size_t marked;
+    size_t needed;
+    bool done;
+} recon_unlabelled_session;
 
 /* What a responder's call answers. */
 typedef struct {
@@ -138,12 +154,6 @@ typedef struct {
     recon_session session; /* the session afterwards */
 } recon_commit;
 
-/* The label of some items. An id is summed as a number whose least significant byte is its first. */
-typedef struct {
-    uint64_t sum[4]; /* the sum of their ids modulo 2^256, least significant word first */
-    uint64_t count;  /* how many they are */
-} recon_label;
-
 /* What the label of a run answers. */
 typedef struct {
     uint64_t refusal;  /* the number of the refusal, 0 for none; where the call is refused, the rest is 0 */
@@ -164,8 +174,8 @@ typedef struct {
 
 /* Opens a session: writes the first query at the start of out and sets the marks, one byte for each item, to 0. The needed buffer, of whole
    ids, is only looked at: the list in it is empty now. Bytes of out behind the message stay.
-   Refuses by 1 to 4 and 12; the session is then { 0, 0, false }: nothing is reported, and it is not done. On 12 nothing has changed: grow
-   out and call again; RECON_OPENING_BYTES(parts, limit) bytes are always enough. */
+   Refuses by 1 to 4 and 12; the session is then { 0, 0, false, the empty label }: nothing is reported, and it is not done. On 12 nothing has
+   changed: grow out and call again; RECON_OPENING_BYTES(parts, limit) bytes are always enough. */
 recon_session_answer recon_open(const uint64_t *times, size_t times_len, const uint8_t *ids, size_t ids_len, size_t parts, size_t limit,
                                 uint8_t *marks, size_t marks_len, const uint8_t *needed, size_t needed_len, uint8_t *out, size_t out_len);
 
@@ -179,9 +189,9 @@ recon_answer_t recon_answer(const uint64_t *times, size_t times_len, const uint8
 /* The opener takes a reply. The mark 1 is set on each own item that the other end lacks, ids that the opener lacks join to the needed list at
    the start of its buffer (rising, without repeats), and the next query is written at the start of out. If it would say nothing, the
    session is done, and nothing is written (length 0). Bytes behind the list and behind the message stay.
-   Refuses by 1 to 12; the session is then the one that was handed over. On 11 and 12 nothing has changed: grow the buffer (needed, with the
-   list in it kept, on 11; out on 12) and call again. A needed buffer with room for session.needed + reply_len / 32 ids never meets 11, and
-   spares the call the counting of new ids, which takes longest where they have no room. */
+   Refuses by 1 to 4, 18 and 5 to 12, in this order; the session is then the one that was handed over. On 11 and 12 nothing has changed: grow the
+   buffer (needed, with the list in it kept, on 11; out on 12) and call again. A needed buffer with room for session.needed + reply_len / 32 ids
+   never meets 11, and spares the call the counting of new ids, which takes longest where they have no room. */
 recon_session_answer recon_take(const uint64_t *times, size_t times_len, const uint8_t *ids, size_t ids_len, size_t parts, size_t limit,
                                 const uint8_t *reply, size_t reply_len, recon_session session, uint8_t *marks, size_t marks_len,
                                 uint8_t *needed, size_t needed_len, uint8_t *out, size_t out_len);
@@ -209,10 +219,26 @@ recon_answer_t recon_answer_within(const uint64_t *times, size_t times_len, cons
 
 /* The opener takes a reply, as recon_take does, and writes a next query of at most `bytes` bytes. Marks, needed list and whether the session is
    done do not depend on the limit.
-   Refuses by 1 to 3, 14 and 4 to 12, in this order. */
+   Refuses by 1 to 3, 14, 4, 18 and 5 to 12, in this order. */
 recon_session_answer recon_take_within(const uint64_t *times, size_t times_len, const uint8_t *ids, size_t ids_len, size_t parts, size_t limit,
                                        size_t bytes, const uint8_t *reply, size_t reply_len, recon_session session, uint8_t *marks,
                                        size_t marks_len, uint8_t *needed, size_t needed_len, uint8_t *out, size_t out_len);
+
+/* A session and its table. A session carries the label of the whole table at its opening. A take compares it with the label of the table that it
+   is handed, and where they differ it is refused by 18 (RECON_OTHER_TABLE), whether the session is done or not: the table has changed since the
+   opening, so the marks stand beside other items. Hand over the table of the opening again, or open a new session. Where the number of items has
+   changed, the marks do not fit any more, and the refusal is 4.
+   A label has no times, and two tables can have one label. A table that was changed to the same label (by a time, say) is not refused, and is
+   outside what is promised.
+   Takes and commits keep the label of the opening. So after a commit a take with the merged table is refused. */
+
+/* Gives its label to a session that was kept from before sessions had one: answers the session that is handed over with the label of the table, and
+   the length 0. Table, marks and needed list are those of the session: the table of its opening, also after a commit, and the rest as the last
+   call left it. A session that is done is converted like others. Nothing that is lent changes.
+   Refuses by 1, 2 and 4, judged as by a take; the session is then { 0, 0, false, the empty label }: nothing is reported, and it is not done. */
+recon_session_answer recon_session_convert(const uint64_t *times, size_t times_len, const uint8_t *ids, size_t ids_len,
+                                           recon_unlabelled_session session, const uint8_t *marks, size_t marks_len, const uint8_t *needed,
+                                           size_t needed_len);
 
 /* Folding in. Once a session is done, the opener's table can take the items that the other end hands over, a batch at a time. A batch is times
    and ids, ordered like a table. The table is the first `items` of its buffers, which may be longer, and of different lengths.
@@ -223,8 +249,9 @@ recon_session_answer recon_take_within(const uint64_t *times, size_t times_len, 
      15  the session is not done
      16  an id of the batch is not on the needed list, or its item, with this time and this id, is already in the table
      17  a buffer of the table is too short for the merge, or that has more than RECON_MAX_ITEMS
-   Neither is handed the marks or judges their count, so several commits can follow one session. The marks remain those of the items that the table
-   had in the session, and a tree over the table has to be built anew after a commit.
+   Neither is handed the marks or judges their count, so several commits can follow one session. Neither compares the session's label: with the first
+   commit the table becomes another than that of the opening. The marks remain those of the items that the table had in the session, and a tree over
+   the table has to be built anew after a commit.
    Once no id is needed any more, and each item was handed over as the other end holds it, the table is the union of both: under the conditions on
    which a session reports all, and if nothing else has changed either table since the opening. That an item has the time under which the other
    end holds it cannot be checked here, since messages carry no times for ids. */
@@ -239,7 +266,8 @@ recon_inquiry recon_fold_inquire(const uint64_t *times, size_t times_len, const 
 
 /* Merges the batch into the table, at the front of its buffers, and takes its ids off the needed list, after every check was made afresh. An id that
    the batch has under two times leaves the list once, and both items enter. Elements of the table's buffers behind the merge stay, and so do
-   bytes of needed behind the shorter list: what stood there before, ids that have left the list too. In the session only `needed` changes.
+   bytes of needed behind the shorter list: what stood there before, ids that have left the list too. In the session only `needed` changes: the
+   label stays that of the table at the opening.
    Refuses by 1, 2, 4 and 15 to 17; items and session are then those that were handed over. On 17 nothing has changed: if items + batch_times_len is
    at most RECON_MAX_ITEMS, grow the buffers to so many items and call again. */
 recon_commit recon_fold_commit(uint64_t *times, size_t times_len, uint8_t *ids, size_t ids_len, size_t items, recon_session session,
@@ -359,6 +387,13 @@ static inline recon_session_answer recon_take_within_inline(const uint64_t *time
                              RECON_ROOM(needed), RECON_ROOM(out));
 }
 #define recon_take_within(...) recon_take_within_inline(__VA_ARGS__)
+
+static inline recon_session_answer recon_session_convert_inline(const uint64_t *times, size_t times_len, const uint8_t *ids, size_t ids_len,
+                                                                recon_unlabelled_session session, const uint8_t *marks, size_t marks_len,
+                                                                const uint8_t *needed, size_t needed_len) {
+    return recon_session_convert(RECON_TIMES(times), RECON_BYTES(ids), session, RECON_BYTES(marks), RECON_BYTES(needed));
+}
+#define recon_session_convert(...) recon_session_convert_inline(__VA_ARGS__)
 
 static inline recon_inquiry recon_fold_inquire_inline(const uint64_t *times, size_t times_len, const uint8_t *ids, size_t ids_len, size_t items,
                                                       recon_session session, const uint8_t *needed, size_t needed_len,

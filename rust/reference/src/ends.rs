@@ -9,7 +9,8 @@ use crate::refusal;
 use crate::table::{to_id, Items, Table};
 use std::iter::Peekable;
 
-/// "The session carries its two counts, marks that are 1 and needed ids, and open or done."
+/// "The session carries its two counts, marks that are 1 and needed ids, and open or done", and "the label of the whole
+/// table at opening".
 #[derive(Clone, Copy, Debug, PartialEq, Eq)]
 pub struct Session {
     /// The number of marks that are 1.
@@ -18,6 +19,41 @@ pub struct Session {
     pub needed: usize,
     /// Done, otherwise open.
     pub done: bool,
+    /// The label of the table at the opening.
+    pub label: Label,
+}
+
+impl Session {
+    /// The session as it would have been "kept from before".
+    pub fn unlabelled(self) -> UnlabelledSession {
+        let Session {
+            marked, needed, done, ..
+        } = self;
+        UnlabelledSession { marked, needed, done }
+    }
+}
+
+/// A session "kept from before", when it carried no label.
+#[derive(Clone, Copy, Debug, PartialEq, Eq)]
+pub struct UnlabelledSession {
+    /// The number of marks that are 1.
+    pub marked: usize,
+    /// The number of ids on the needed list.
+    pub needed: usize,
+    /// Done, otherwise open.
+    pub done: bool,
+}
+
+impl UnlabelledSession {
+    fn labelled(self, label: Label) -> Session {
+        let UnlabelledSession { marked, needed, done } = self;
+        Session {
+            marked,
+            needed,
+            done,
+            label,
+        }
+    }
 }
 
 /// What an unrefused open or take gives back.
@@ -185,11 +221,12 @@ pub fn open_by(
         marked: 0,
         needed: 0,
         done: false,
+        label: Label::of_table(&table),
     };
     Ok(Sent { length, session })
 }
 
-/// Refusal 4, both calls: "the marks aren't n bytes, the needed buffer isn't a multiple of 32 bytes".
+/// Refusal 4, all calls: "the marks aren't n bytes, the needed buffer isn't a multiple of 32 bytes".
 fn judge_buffers(table: &Table, marks: &[u8], needed: &[u8]) -> Result<(), u8> {
     if marks.len() != table.count() || needed.len() % 32 != 0 {
         return Err(refusal::REPORT);
@@ -197,7 +234,7 @@ fn judge_buffers(table: &Table, marks: &[u8], needed: &[u8]) -> Result<(), u8> {
     Ok(())
 }
 
-/// Take: the opener is handed a reply. Refuses by 1 to 12 in this order.
+/// Take: the opener is handed a reply. Refuses by 1 to 4, 18 and 5 to 12 in this order.
 #[allow(clippy::too_many_arguments)]
 pub fn take(
     times: &[u64],
@@ -248,8 +285,10 @@ pub fn take_by(
     let table = Table::lent(times, ids)?; // 1, 2
     let cut = Cut::given(b, t, odd)?; // 3
     let limit = Limit::given(bytes)?; // 14
-    judge_buffers(&table, marks, needed)?; // 4
-    let mut report = Report::judged(session, marks, needed)?; // 4
+    let mut report = Report::judged(&table, session.unlabelled(), marks, needed)?; // 4
+    if Label::of_table(&table) != session.label {
+        return Err(refusal::OTHER_TABLE);
+    }
     if session.done {
         return Err(refusal::DONE);
     }
@@ -264,8 +303,22 @@ pub fn take_by(
     let done = next.iter().all(|range| range.payload == Payload::Skip);
     let length = if done { 0 } else { limit.write(&table, next, out)? }; // 12
     report.lay(marks, needed);
-    let session = report.session(done);
+    let session = report.session(done).labelled(session.label);
     Ok(Sent { length, session })
+}
+
+/// The conversion, which gives their label to "sessions kept from before". It "does a take's checks 1, 2 and 4, done
+/// sessions included", and no others. "All else in the session stays."
+pub fn convert(
+    times: &[u64],
+    ids: &[u8],
+    session: UnlabelledSession,
+    marks: &[u8],
+    needed: &[u8],
+) -> Result<Session, u8> {
+    let table = Table::lent(times, ids)?; // 1, 2
+    Report::judged(&table, session, marks, needed)?; // 4
+    Ok(session.labelled(Label::of_table(&table)))
 }
 
 /// The number of marks that are 1.
@@ -301,9 +354,10 @@ struct Report {
 }
 
 impl Report {
-    /// The report so far. Refusal 4, take only: "a mark is above 1, a count disagrees with the buffer, or the needed
-    /// ids don't rise strictly". Bytes behind the list are not judged.
-    fn judged(session: Session, marks: &[u8], needed: &[u8]) -> Result<Report, u8> {
+    /// The report so far. Refusal 4 as a take judges it, with "a mark is above 1, a count disagrees with the buffer, or
+    /// the needed ids don't rise strictly". Bytes behind the list are not judged.
+    fn judged(table: &Table, session: UnlabelledSession, marks: &[u8], needed: &[u8]) -> Result<Report, u8> {
+        judge_buffers(table, marks, needed)?;
         if marks.iter().any(|&mark| mark > 1) || session.marked != ones(marks) || session.needed > needed.len() / 32 {
             return Err(refusal::REPORT);
         }
@@ -352,8 +406,8 @@ impl Report {
     }
 
     /// The session's "two counts, marks that are 1 and needed ids, and open or done".
-    fn session(&self, done: bool) -> Session {
-        Session {
+    fn session(&self, done: bool) -> UnlabelledSession {
+        UnlabelledSession {
             marked: ones(&self.marks),
             needed: self.needed.len(),
             done,

@@ -44,6 +44,11 @@ impl Label {
         }
     }
 
+    /// "The label of the whole table".
+    pub fn of_table(table: &Table) -> Label {
+        Label::of_items(table, 0..table.count())
+    }
+
     /// The label of some items of the table.
     pub fn of_items(table: &Table, items: Items) -> Label {
         table

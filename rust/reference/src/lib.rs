@@ -2,8 +2,8 @@
 //!
 //! A plain reference, written from the specification and without dependencies. The files follow its headings: `bound`
 //! and `table` (Tables and bounds), `label` and `sha256` (Fingerprints), `cursor` and `message` (Messages), `cutting`
-//! (Cutting), `ends` (The two ends), `tree` (Labels kept in a tree), `limit` (Byte limits), `fold` (Folding in),
-//! `refusal` (In checking order).
+//! (Cutting), `ends` (The two ends, A session knows its table), `tree` (Labels kept in a tree), `limit` (Byte limits),
+//! `fold` (Folding in), `refusal` (In checking order).
 //!
 //! Ranges are cut by the rule of today, where the last parts are larger. `open_by`, `answer_by` and `take_by` cut by the
 //! former rule, too, as an end does that began its session under it.
@@ -29,8 +29,9 @@ mod tree;
 
 pub use bound::Bound;
 pub use cutting::Odd;
-pub use ends::{answer, answer_within, fingerprint, open, open_within, take, take_within, GivenBound, Sent, Session};
+pub use ends::{answer, answer_within, convert, fingerprint, open, open_within, take, take_within};
 pub use ends::{answer_by, open_by, take_by};
+pub use ends::{GivenBound, Sent, Session, UnlabelledSession};
 pub use fold::{fold_commit, fold_inquire, Committed, Inquiry};
 pub use label::Label;
 pub use message::{read, spell, tidy, write, Payload, Range};

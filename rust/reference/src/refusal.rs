@@ -34,3 +34,5 @@ pub const NOT_DONE: u8 = 15;
 pub const NOT_DUE: u8 = 16;
 /// "The table's buffers can't hold the merge or it passes 1,048,576 items". It comes "in the place of 11".
 pub const TABLE_ROOM: u8 = 17;
+/// "The table's label isn't the session's", for a take only. It comes "after 4".
+pub const OTHER_TABLE: u8 = 18;

@@ -1,7 +1,7 @@
 //! Messages with byte limits, byte by byte.
 
 use crate::support::{at, bytes, id, joined, last, range, Lent, INFINITY};
-use reference::{read, spell, Payload, Session};
+use reference::{read, spell, Payload};
 
 type Item = (u64, [u8; 32]);
 
@@ -36,13 +36,6 @@ fn whole_and_short() -> (Vec<u8>, Vec<u8>) {
     assert_eq!((whole.len(), short.len()), (4_102, 4_090));
     (whole, short)
 }
-
-/// The session that an opening leaves.
-const OPENED: Session = Session {
-    marked: 0,
-    needed: 0,
-    done: false,
-};
 
 /// The limits, and whether the list of 128 is kept whole.
 const LIMITS: [(Option<usize>, bool); 6] = [
@@ -86,38 +79,36 @@ fn openings_and_answers_of_128_ids() {
 /// A take of a fingerprint whose next query lists all, with exact room and one byte less.
 #[test]
 fn takes_of_128_ids() {
-    let Lent { times, ids } = Lent::new(&items());
+    let table = Lent::new(&items());
+    let (Lent { times, ids }, opened) = (&table, table.session(0, 0, false));
     let (whole, short) = whole_and_short();
     let reply = bytes("61 00 00 01 AA*16");
     for (limit, is_whole) in LIMITS {
         let expected = if is_whole { &whole } else { &short };
         let take = |out: &mut [u8]| {
             let mut marks = vec![0; 128];
-            reference::take_within(&times, &ids, 2, 128, limit, &reply, OPENED, &mut marks, &mut [], out)
+            reference::take_within(times, ids, 2, 128, limit, &reply, opened, &mut marks, &mut [], out)
         };
         let mut out = vec![0xcc; expected.len()];
         assert_eq!(take(&mut out[1..]), Err(12));
         assert_eq!(out, vec![0xcc; expected.len()]);
         let sent = take(&mut out).unwrap();
-        assert_eq!((sent.length, sent.session, &out), (expected.len(), OPENED, expected));
+        assert_eq!((sent.length, sent.session, &out), (expected.len(), opened, expected));
     }
 }
 
 /// The reply lists none of 128 items, or says nothing. The session is done, and no room is needed.
 #[test]
 fn a_take_that_is_done_writes_nothing() {
-    let Lent { times, ids } = Lent::new(&items());
+    let table = Lent::new(&items());
+    let (Lent { times, ids }, opened) = (&table, table.session(0, 0, false));
     let limit = Some(4_096);
     for (reply, marked) in [("61 00 00 02 00", 128), ("61", 0)] {
         let (reply, mut marks) = (bytes(reply), vec![0; 128]);
         let (needed, out) = (&mut [], &mut []);
-        let sent = reference::take_within(&times, &ids, 2, 2, limit, &reply, OPENED, &mut marks, needed, out);
-        let session = Session {
-            marked,
-            needed: 0,
-            done: true,
-        };
-        assert_eq!(sent.map(|sent| (sent.length, sent.session)), Ok((0, session)));
+        let sent = reference::take_within(times, ids, 2, 2, limit, &reply, opened, &mut marks, needed, out);
+        let done = table.session(marked, 0, true);
+        assert_eq!(sent.map(|sent| (sent.length, sent.session)), Ok((0, done)));
     }
 }
 

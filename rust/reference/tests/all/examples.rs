@@ -2,7 +2,7 @@
 
 use crate::sessions::Opener;
 use crate::support::{at, bytes, id, joined, last, range, Lent, INFINITY};
-use reference::{read, spell, Odd, Payload, Session};
+use reference::{read, spell, Odd, Payload};
 
 /// The query that a table opens with.
 fn opened(table: &Lent, b: usize, t: usize) -> Vec<u8> {
@@ -49,14 +49,7 @@ fn e3_empty_tables() {
     let reply = empty.answer(2, 2, &query).unwrap();
     assert_eq!(reply, query);
     assert_eq!(opener.take(&reply, 0, 0), Ok(vec![]));
-    assert_eq!(
-        opener.session,
-        Session {
-            marked: 0,
-            needed: 0,
-            done: true
-        }
-    );
+    assert_eq!(opener.session, opener.table.session(0, 0, true));
 }
 
 /// The fingerprints of the ids 01 alone, 02 and 03, 01 and 02, and 03 alone.
@@ -181,14 +174,7 @@ fn e11_one_item() {
     assert_eq!(query, joined(&[&bytes("61 00 00 02 01"), &id(9)]));
     assert_eq!(opener.take(&bytes("61 00 00 02 00"), 0, 0), Ok(vec![]));
     assert_eq!(opener.marks, [1]);
-    assert_eq!(
-        opener.session,
-        Session {
-            marked: 1,
-            needed: 0,
-            done: true
-        }
-    );
+    assert_eq!(opener.session, opener.table.session(1, 0, true));
 }
 
 /// "A first byte from 60 to 6F other than 61 is met with the single byte 61", whatever follows. A take refuses it.
@@ -228,14 +214,7 @@ fn k4_id_in_another_range() {
     assert_eq!(opener.take(&reply, 1, 0), Ok(vec![]));
     assert_eq!(opener.marks, [1]);
     assert_eq!(opener.needed, [id(1)]);
-    assert_eq!(
-        opener.session,
-        Session {
-            marked: 1,
-            needed: 1,
-            done: true
-        }
-    );
+    assert_eq!(opener.session, opener.table.session(1, 1, true));
 }
 
 /// An id that stands under two times is marked and needed although both ends have it.
@@ -306,26 +285,12 @@ fn short_replies() {
     for reply in [vec![0x61], query.clone()] {
         let mut opener = opener.clone();
         assert_eq!(opener.take(&reply, 0, 0), Ok(vec![]));
-        assert_eq!(
-            opener.session,
-            Session {
-                marked: 0,
-                needed: 0,
-                done: true
-            }
-        );
+        assert_eq!(opener.session, opener.table.session(0, 0, true));
     }
     let mut early = opener.clone();
     let next = early.take(&bytes("61 08 00 01 AA*16"), 0, 100).unwrap();
     assert_eq!(next, joined(&[&bytes("61 08 00 02 02"), &id(1), &id(2)]));
-    assert_eq!(
-        early.session,
-        Session {
-            marked: 0,
-            needed: 0,
-            done: false
-        }
-    );
+    assert_eq!(early.session, early.table.session(0, 0, false));
     // No own item there: an ids range with count 0 is asked for.
     let mut none = opener;
     assert_eq!(
@@ -377,14 +342,7 @@ fn repeats_of_own_ids() {
     let (mut once, _) = Opener::open(Lent::new(&[(5, id(1))]), 2, 2);
     let reply = joined(&[&bytes("61 00 00 02 03"), &id(1), &id(1), &id(1)]);
     assert_eq!(once.take(&reply, 0, 0), Ok(vec![]));
-    assert_eq!(
-        once.session,
-        Session {
-            marked: 0,
-            needed: 0,
-            done: true
-        }
-    );
+    assert_eq!(once.session, once.table.session(0, 0, true));
 }
 
 /// Marks set earlier remain, and a later listing or skip clears nothing.
@@ -397,12 +355,5 @@ fn reports_only_grow() {
     opener.take(&joined(&[&bytes(open), &id(1)]), 4, 100).unwrap();
     assert_eq!((&opener.marks[..], &opener.needed[..]), (&[1, 1][..], &[id(3)][..]));
     assert_eq!(opener.take(&[0x61], 1, 0), Ok(vec![]));
-    assert_eq!(
-        opener.session,
-        Session {
-            marked: 2,
-            needed: 1,
-            done: true
-        }
-    );
+    assert_eq!(opener.session, opener.table.session(2, 1, true));
 }

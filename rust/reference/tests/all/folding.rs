@@ -31,11 +31,7 @@ impl Call {
             times,
             ids,
             items: items.len(),
-            session: Session {
-                marked: 5,
-                needed: needed.len(),
-                done: true,
-            },
+            session: Lent::new(items).session(5, needed.len(), true),
             needed: needed.concat(),
             batch_times: batch.times,
             batch_ids: batch.ids,

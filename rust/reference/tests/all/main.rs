@@ -6,6 +6,7 @@ mod byte_limits;
 mod examples;
 mod folding;
 mod hashing;
+mod labels;
 mod reading;
 mod refusals;
 mod round_trip;

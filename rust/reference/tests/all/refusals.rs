@@ -1,6 +1,6 @@
 //! Refusals in checking order; every lent byte as before. All pairs of faults are tried.
 
-use crate::support::{bytes, id, joined};
+use crate::support::{bytes, id, joined, Lent};
 use reference::{Session, MAX_ITEMS};
 
 /// The inputs of a call, good until a fault is put in.
@@ -18,21 +18,23 @@ struct Call {
     out: Vec<u8>,
 }
 
+/// The table of the ids 01, 02 and 03.
+fn three() -> Lent {
+    Lent::new(&[(5, id(1)), (5, id(2)), (7, id(3))])
+}
+
 impl Call {
     /// A take that needs one more id and writes a query of 40 bytes.
     fn good() -> Call {
+        let table = three();
         Call {
-            times: vec![5, 5, 7],
-            ids: [id(1), id(2), id(3)].concat(),
+            session: table.session(1, 1, false),
+            times: table.times,
+            ids: table.ids,
             b: 2,
             t: 2,
             bytes: None,
             message: joined(&[&bytes("61 07 00 02 01"), &id(0xaa), &bytes("00 00 01 BB*16")]),
-            session: Session {
-                marked: 1,
-                needed: 1,
-                done: false,
-            },
             marks: vec![0, 1, 0],
             needed: [id(0xa0), [0xdd; 32]].concat(),
             out: vec![0xcc; 60],
@@ -119,6 +121,14 @@ const TAKE_FAULTS: &[(u8, Fault)] = &[
         call.session.needed = 2;
         call.needed = [id(3), id(2)].concat();
     }),
+    (18, |call| call.session.label.sum[0] += 1),
+    (18, |call| call.session.label.sum[1] += 1),
+    (18, |call| call.session.label.sum[2] += 1),
+    (18, |call| call.session.label.sum[3] += 1),
+    (18, |call| call.session.label.count += 1),
+    (18, |call| call.session.label.count -= 1),
+    // Another id, above its predecessor too.
+    (18, |call| call.ids[95] ^= 1),
     (5, |call| call.session.done = true),
     (6, |call| call.message.clear()),
     (6, |call| call.message[0] = 0x5f),
@@ -153,14 +163,7 @@ fn good_take() {
         };
         let mut call = good.clone();
         let sent = call.take().unwrap();
-        assert_eq!(
-            sent.session,
-            Session {
-                marked: 2,
-                needed: 2,
-                done: false
-            }
-        );
+        assert_eq!(sent.session, three().session(2, 2, false));
         let query = joined(&[&bytes("61 07 00 00 00 00 02 01"), &id(3)]);
         assert_eq!(sent.length, query.len());
         assert_eq!(sent.length, 40);
@@ -221,8 +224,8 @@ fn answer_pairs_of_faults() {
             }
         }
     }
-    // Faults of 4, 5 and 11 are not an answer's.
-    for number in [4, 5, 11] {
+    // Faults of 4, 18, 5 and 11 are not an answer's.
+    for number in [4, 18, 5, 11] {
         for put in single(number) {
             let mut call = good.clone();
             put(&mut call);
@@ -276,14 +279,7 @@ fn open_judges_no_contents() {
     let before = call.clone();
     let sent = call.open().unwrap();
     assert_eq!(sent.length, 40);
-    assert_eq!(
-        sent.session,
-        Session {
-            marked: 0,
-            needed: 0,
-            done: false
-        }
-    );
+    assert_eq!(sent.session, three().session(0, 0, false));
     assert_eq!(call.marks, [0, 0, 0]);
     assert_eq!(call.needed, before.needed);
     call.needed.clear();
@@ -299,13 +295,15 @@ fn bytes_behind_the_list_are_free() {
     assert_eq!(call.needed, [id(0xa0), id(0xaa), id(0xa0)].concat());
 }
 
-/// 5 comes after 4 and before the message.
+/// 5 comes after 4 and 18 and before the message.
 #[test]
 fn done_sessions() {
     let mut call = Call::good();
     call.session.done = true;
     call.message.clear();
     assert_eq!(call.clone().take(), Err(5));
+    call.ids[95] ^= 1;
+    assert_eq!(call.clone().take(), Err(18));
     call.marks[0] = 3;
     assert_eq!(call.take(), Err(4));
 }
@@ -323,14 +321,7 @@ fn done_takes() {
     assert_eq!(full, before);
     let sent = call.take().unwrap();
     assert_eq!(sent.length, 0);
-    assert_eq!(
-        sent.session,
-        Session {
-            marked: 2,
-            needed: 2,
-            done: true
-        }
-    );
+    assert_eq!(sent.session, three().session(2, 2, true));
     assert_eq!(call.needed, [id(0xa0), id(0xaa)].concat());
 }
 

@@ -40,14 +40,7 @@ impl Opener {
         let mut out = vec![0xcc; 100_000];
         let Lent { times, ids } = &table;
         let sent = reference::open_by(odd, times, ids, b, t, bytes, &mut marks, &[0xdd; 64], &mut out).unwrap();
-        assert_eq!(
-            sent.session,
-            Session {
-                marked: 0,
-                needed: 0,
-                done: false
-            }
-        );
+        assert_eq!(sent.session, table.session(0, 0, false));
         assert!(marks.iter().all(|&mark| mark == 0));
         assert!(out[sent.length..].iter().all(|&byte| byte == 0xcc));
         out.truncate(sent.length);
@@ -583,14 +576,7 @@ fn colliding_ranges_hide() {
         2,
     );
     session.take(0);
-    assert_eq!(
-        session.opener.session,
-        Session {
-            marked: 0,
-            needed: 0,
-            done: true
-        }
-    );
+    assert_eq!(session.opener.session, session.opener.table.session(0, 0, true));
     assert_eq!(session.excused, [id(1), id(2), id(3), id(4)].into_iter().collect());
 }
 
@@ -618,12 +604,5 @@ fn d1_three_takes() {
         session.take(takes - 1);
         assert_eq!(session.opener.session.done, takes == 3);
     }
-    assert_eq!(
-        session.opener.session,
-        Session {
-            marked: 0,
-            needed: 89,
-            done: true
-        }
-    );
+    assert_eq!(session.opener.session, session.opener.table.session(0, 89, true));
 }

@@ -1,6 +1,6 @@
 //! Hex, tables and random numbers for the tests.
 
-use reference::{Bound, GivenBound, Odd, Payload, Range};
+use reference::{Bound, GivenBound, Label, Odd, Payload, Range, Session};
 
 /// Bytes from hex words; `80*8` is a word so many times over.
 pub fn bytes(text: &str) -> Vec<u8> {
@@ -20,7 +20,7 @@ pub fn bytes(text: &str) -> Vec<u8> {
 }
 
 /// The given byte and 31 bytes 00.
-pub fn id(first: u8) -> [u8; 32] {
+pub const fn id(first: u8) -> [u8; 32] {
     let mut id = [0; 32];
     id[0] = first;
     id
@@ -44,6 +44,34 @@ impl Lent {
         Lent {
             times: items.iter().map(|item| item.0).collect(),
             ids: items.iter().flat_map(|item| item.1).collect(),
+        }
+    }
+
+    /// The label, its sum added up byte by byte.
+    pub fn label(&self) -> Label {
+        let mut sum = [0; 32];
+        for id in self.ids.chunks_exact(32) {
+            let mut carry = 0;
+            for (byte, own) in sum.iter_mut().zip(id) {
+                carry += u16::from(*byte) + u16::from(*own);
+                *byte = carry as u8;
+                carry >>= 8;
+            }
+        }
+        let word = |at: usize| u64::from_le_bytes(sum[8 * at..8 * at + 8].try_into().unwrap());
+        Label {
+            sum: [word(0), word(1), word(2), word(3)],
+            count: self.times.len() as u64,
+        }
+    }
+
+    /// The session with these counts that was opened with this table.
+    pub fn session(&self, marked: usize, needed: usize, done: bool) -> Session {
+        Session {
+            marked,
+            needed,
+            done,
+            label: self.label(),
         }
     }
 

@@ -1,10 +1,26 @@
 //! The calls of include/recon.h. Each is safe for every slice: a slice's pointer is not null and points to as many elements as its length
 //! says, the borrows keep written slices apart from all others, and the calls themselves have no condition.
-use crate::{Bound, Cut, Label, Session, Table};
+use crate::{Bound, Cut, Label, Session, Table, UnlabelledSession};
+
+#[repr(C)]
+#[derive(Clone, Copy)]
+pub struct RawLabel {
+    sum: [u64; 4],
+    count: u64,
+}
 
 #[repr(C)]
 #[derive(Clone, Copy)]
 pub struct RawSession {
+    marked: usize,
+    needed: usize,
+    done: bool,
+    label: RawLabel,
+}
+
+#[repr(C)]
+#[derive(Clone, Copy)]
+pub struct RawUnlabelledSession {
     marked: usize,
     needed: usize,
     done: bool,
@@ -21,12 +37,6 @@ pub struct SessionAnswer {
     pub refusal: u64,
     pub length: usize,
     pub session: RawSession,
-}
-
-#[repr(C)]
-pub struct RawLabel {
-    sum: [u64; 4],
-    count: u64,
 }
 
 #[repr(C)]
@@ -56,6 +66,7 @@ impl From<RawSession> for Session {
             marked: s.marked,
             needed: s.needed,
             done: s.done,
+            label: s.label.into(),
         }
     }
 }
@@ -66,6 +77,17 @@ impl From<Session> for RawSession {
             marked: s.marked,
             needed: s.needed,
             done: s.done,
+            label: s.label.into(),
+        }
+    }
+}
+
+impl From<UnlabelledSession> for RawUnlabelledSession {
+    fn from(s: UnlabelledSession) -> RawUnlabelledSession {
+        RawUnlabelledSession {
+            marked: s.marked,
+            needed: s.needed,
+            done: s.done,
         }
     }
 }
@@ -73,6 +95,15 @@ impl From<Session> for RawSession {
 impl From<RawLabel> for Label {
     fn from(l: RawLabel) -> Label {
         Label {
+            sum: l.sum,
+            count: l.count,
+        }
+    }
+}
+
+impl From<Label> for RawLabel {
+    fn from(l: Label) -> RawLabel {
+        RawLabel {
             sum: l.sum,
             count: l.count,
         }
@@ -106,6 +137,10 @@ extern "C" {
         times: *const u64, times_len: usize, ids: *const u8, ids_len: usize, parts: usize, limit: usize, bytes: usize,
         reply: *const u8, reply_len: usize, session: RawSession, marks: *mut u8, marks_len: usize,
         needed: *mut u8, needed_len: usize, out: *mut u8, out_len: usize,
+    ) -> SessionAnswer;
+    fn recon_session_convert(
+        times: *const u64, times_len: usize, ids: *const u8, ids_len: usize, session: RawUnlabelledSession,
+        marks: *const u8, marks_len: usize, needed: *const u8, needed_len: usize,
     ) -> SessionAnswer;
     fn recon_fingerprint(
         times: *const u64, times_len: usize, ids: *const u8, ids_len: usize,
@@ -222,6 +257,17 @@ pub fn take_within(
             table.times.as_ptr(), table.times.len(), table.ids.as_ptr(), table.ids.len(), cut.parts, cut.limit, bytes,
             reply.as_ptr(), reply.len(), session.into(), marks.as_mut_ptr(), marks.len(),
             needed.as_mut_ptr(), needed.len(), out.as_mut_ptr(), out.len(),
+        )
+    }
+}
+
+#[rustfmt::skip]
+pub fn session_convert(table: Table<'_>, session: UnlabelledSession, marks: &[u8], needed: &[u8]) -> SessionAnswer {
+    // SAFETY: see the head of this file.
+    unsafe {
+        recon_session_convert(
+            table.times.as_ptr(), table.times.len(), table.ids.as_ptr(), table.ids.len(), session.into(),
+            marks.as_ptr(), marks.len(), needed.as_ptr(), needed.len(),
         )
     }
 }

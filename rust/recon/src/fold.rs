@@ -15,7 +15,8 @@ pub struct Inquiry {
 pub struct Committed {
     /// How many items the table has now.
     pub items: usize,
-    /// The session, for the next call. Its count of needed ids is that of the shorter list; the rest is as before.
+    /// The session, for the next call. Its count of needed ids is that of the shorter list; the rest is as before, the label
+    /// of the table at the opening too.
     pub session: Session,
 }
 
@@ -26,13 +27,13 @@ pub struct Committed {
 /// that leaves the list.
 ///
 /// ```
-/// use recon::{fold_inquire, Refusal, Session, Table};
+/// use recon::{fold_inquire, Label, Refusal, Session, Table};
 ///
 /// // Two items, in buffers that hold four; the ids 2, 3 and 4 are needed.
 /// let (times, mut ids) = ([5, 7, 0, 0], [0; 4 * 32]);
 /// ids[..64].copy_from_slice(&[[1; 32], [9; 32]].concat());
 /// let needed = [[2; 32], [3; 32], [4; 32]].concat();
-/// let session = Session { marked: 0, needed: 3, done: true };
+/// let session = Session { marked: 0, needed: 3, done: true, label: Label::default() }; // No label is compared here.
 /// let batch = Table { times: &[5, 7], ids: &[[2; 32], [4; 32]].concat() };
 ///
 /// let told = fold_inquire(&times, &ids, 2, session, &needed, batch)?;
@@ -70,12 +71,12 @@ pub fn fold_inquire(
 /// handed what the one before it left.
 ///
 /// ```
-/// use recon::{fold_commit, Refusal, Session, Table};
+/// use recon::{fold_commit, Label, Refusal, Session, Table};
 ///
 /// let (mut times, mut ids) = ([5, 7, 0, 0], [0; 4 * 32]);
 /// ids[..64].copy_from_slice(&[[1; 32], [9; 32]].concat());
 /// let mut needed = [[2; 32], [3; 32], [4; 32]].concat();
-/// let session = Session { marked: 0, needed: 3, done: true };
+/// let session = Session { marked: 0, needed: 3, done: true, label: Label::default() }; // No label is compared here.
 /// let batch = Table { times: &[5, 7], ids: &[[2; 32], [4; 32]].concat() };
 ///
 /// let left = fold_commit(&mut times, &mut ids, 2, session, &mut needed, batch)?;

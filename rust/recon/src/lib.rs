@@ -133,6 +133,34 @@
 //! # Ok::<(), Refusal>(())
 //! ```
 //!
+//! # A session and its table
+//!
+//! A session carries the label of the table at its opening, and a take with a table of another label is refused by 18: a record that was saved
+//! while the session was open would have moved the marks to other items. [`Opener`] borrows its table, so that it cannot change. A label has no
+//! times, and two tables can have one label: a table that was changed to the same label is not refused, and nothing is promised of it.
+//!
+//! ```
+//! use recon::{answer_query, open_session, take_reply, Cut, Refusal, Table};
+//!
+//! let (cut, our_ids, their_ids) = (Cut::default(), [[1; 32], [2; 32]].concat(), [3; 32]);
+//! let ours = Table { times: &[100, 200], ids: &our_ids };
+//! let theirs = Table { times: &[300], ids: &their_ids };
+//! let (mut marks, mut needed, mut out, mut reply) = ([0; 2], [0; 32], [0; 100], [0; 100]);
+//! let sent = open_session(ours, cut, &mut marks, &needed, &mut out)?;
+//! let length = answer_query(theirs, cut, &out[..sent.length], &mut reply)?;
+//! let reply = &reply[..length];
+//!
+//! let other_ids = [[1; 32], [4; 32]].concat();
+//! let other = Table { times: &[100, 200], ids: &other_ids };
+//! let taken = take_reply(other, cut, reply, sent.session, &mut marks, &mut needed, &mut out);
+//! assert_eq!(taken, Err(Refusal::OtherTable));
+//! let sent = take_reply(ours, cut, reply, sent.session, &mut marks, &mut needed, &mut out)?;
+//! assert_eq!((marks, needed, sent.session.done), ([1, 1], [3; 32], true));
+//! # Ok::<(), Refusal>(())
+//! ```
+//!
+//! A session that was kept from before sessions had a label gets one by [`convert_session`].
+//!
 //! # What all calls share
 //!
 //! No call panics or has a condition: whatever is wrong with what it is handed, it answers with a [`Refusal`], and then it has changed
@@ -158,6 +186,7 @@ extern crate alloc;
 #[cfg(feature = "std")]
 extern crate std;
 
+mod convert;
 #[cfg(feature = "alloc")]
 mod ends;
 mod ffi;
@@ -168,6 +197,7 @@ mod refusal;
 mod trees;
 mod within;
 
+pub use convert::{convert_session, UnlabelledSession};
 #[cfg(feature = "alloc")]
 pub use ends::{Opener, Responder};
 pub use fold::{fold_commit, fold_inquire, Committed, Inquiry};
@@ -241,7 +271,7 @@ impl Default for Cut {
     }
 }
 
-/// The opener's session. It goes with the marks and the needed list as the last call left them.
+/// The opener's session. It goes with the marks and the needed list as the last call left them, and with the table of its opening.
 #[derive(Clone, Copy, Debug, PartialEq, Eq)]
 pub struct Session {
     /// How many marks are 1.
@@ -250,6 +280,8 @@ pub struct Session {
     pub needed: usize,
     /// Whether all is reported.
     pub done: bool,
+    /// That of the whole table at the opening. Takes and commits leave it as it is.
+    pub label: Label,
 }
 
 /// What an opener's call leaves.
@@ -317,7 +349,8 @@ pub fn answer_query(table: Table<'_>, cut: Cut, query: &[u8], out: &mut [u8]) ->
 /// know it, which may take it many times as long as all else.
 ///
 /// # Errors
-/// Refusals 1 to 12; then no byte has changed, and the session is still the one handed over.
+/// Refusals 1 to 4, 18 and 5 to 12, in this order; then no byte has changed, and the session is still the one handed over. By 18 a take is refused
+/// whose table has another label than that of the opening.
 pub fn take_reply(
     table: Table<'_>,
     cut: Cut,

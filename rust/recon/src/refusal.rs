@@ -4,7 +4,7 @@ use core::fmt;
 macro_rules! refusals {
     ($($number:literal $kind:ident $text:literal $($more:literal)?,)+) => {
         /// Why a call is refused. The numbers are those of the specification and of `recon.h`, in the order in which a call checks them, save
-        /// that 13 is checked right after 2, 14 right after 3, 15 and then 16 right after 5, and 17 in the place of 11.
+        /// that 13 is checked right after 2, 14 right after 3, 18 right after 4, 15 and then 16 right after 5, and 17 in the place of 11.
         ///
         /// A refused call has changed nothing. So after [`NeededFull`](Refusal::NeededFull), [`NoRoom`](Refusal::NoRoom) and, unless there
         /// are too many items, [`TableFull`](Refusal::TableFull) the call can be made again with a larger buffer.
@@ -96,6 +96,8 @@ refusals! {
     16 NotDue "an id of the batch is not on the needed list, or its item is already in the table",
     17 TableFull "the table's buffers cannot hold the merge, or it exceeds 1,048,576 items"
         "Nothing has changed. Unless it exceeds 1,048,576 items, make the call again with longer buffers.",
+    18 OtherTable "the table is not the one that the session was opened with"
+        "It has changed since the opening. Hand over the table of the opening again, or open a new session.",
 }
 
 impl fmt::Display for Refusal {

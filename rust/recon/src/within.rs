@@ -78,8 +78,8 @@ pub fn answer_query_within(
 /// ```
 ///
 /// # Errors
-/// Refusals 1 to 3, 14 for a limit below [`MIN_BYTE_LIMIT`](crate::MIN_BYTE_LIMIT), and 4 to 12; then no byte has changed, and the session is
-/// still the one handed over.
+/// Refusals 1 to 3, 14 for a limit below [`MIN_BYTE_LIMIT`](crate::MIN_BYTE_LIMIT), 4, 18 and 5 to 12, in this order; then no byte has changed,
+/// and the session is still the one handed over.
 #[allow(clippy::too_many_arguments)] // Those of `take_reply`, and the limit.
 pub fn take_reply_within(
     table: Table<'_>,

@@ -1,5 +1,5 @@
 //! The safe calls on worked examples of the specification.
-use recon::{answer_query, fingerprint, open_session, sha256, take_reply, Bound, Cut, Refusal, Session, Table};
+use recon::{answer_query, fingerprint, open_session, sha256, take_reply, Bound, Cut, Label, Refusal, Session, Table};
 
 const CUT: Cut = Cut { parts: 2, limit: 2 };
 
@@ -39,12 +39,18 @@ fn a_session_of_two_tables() {
     assert_eq!(marks, [0, 1, 0]);
     assert_eq!(needed[..32], ids(&[4])[..]);
     assert_eq!(needed[32..], [9; 32]);
+    // 01, 02 and 03.
+    let label = Label {
+        sum: [6, 0, 0, 0],
+        count: 3,
+    };
     assert_eq!(
         sent.session,
         Session {
             marked: 1,
             needed: 1,
-            done: true
+            done: true,
+            label
         }
     );
     assert!(messages <= 2);

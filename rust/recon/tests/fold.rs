@@ -1,5 +1,5 @@
 //! The calls of folding in: known answers, written by hand, and their refusals in order.
-use recon::{fold_commit, fold_inquire, Committed, Inquiry, Refusal, Session, Table};
+use recon::{fold_commit, fold_inquire, Committed, Inquiry, Label, Refusal, Session, Table};
 
 /// The id that starts with this byte and is zero behind it.
 fn id(first: u8) -> [u8; 32] {
@@ -10,6 +10,19 @@ fn id(first: u8) -> [u8; 32] {
 
 fn ids(first: &[u8]) -> Vec<u8> {
     first.iter().flat_map(|&first| id(first)).collect()
+}
+
+/// A session that is done. Neither call compares its label, and a commit keeps it.
+fn done(marked: usize, needed: usize) -> Session {
+    Session {
+        marked,
+        needed,
+        done: true,
+        label: Label {
+            sum: [1, 2, 3, 4],
+            count: 5,
+        },
+    }
 }
 
 /// What both calls are handed. A fault makes them be refused.
@@ -31,11 +44,7 @@ impl Given {
             times: vec![5, 7, 1000, 2000],
             ids: [ids(&[1, 3]), vec![0xcc; 64]].concat(),
             items: 2,
-            session: Session {
-                marked: 9,
-                needed: 3,
-                done: true,
-            },
+            session: done(9, 3),
             needed: ids(&[2, 3, 4]),
             batch_times: batch_times.to_vec(),
             batch_ids: ids(batch_ids),
@@ -143,11 +152,7 @@ fn an_empty_batch_into_full_buffers() {
 #[test]
 fn empty_slices() {
     let none = Table { times: &[], ids: &[] };
-    let session = Session {
-        marked: 0,
-        needed: 0,
-        done: true,
-    };
+    let session = done(0, 0);
     let told = fold_inquire(&[], &[], 0, session, &[], none);
     assert_eq!(told.map(|told| (told.entering, told.staying)), Ok((0, 0)));
     let left = fold_commit(&mut [], &mut [], 0, session, &mut [], none);
@@ -237,11 +242,7 @@ fn the_most_items() {
     let most = recon::MAX_ITEMS;
     let mut times: Vec<u64> = (0..=most as u64).collect();
     let mut all = vec![7; 32 * times.len()];
-    let session = Session {
-        marked: 0,
-        needed: 2,
-        done: true,
-    };
+    let session = done(0, 2);
     let mut needed = ids(&[8, 9]);
     let one = most as u64;
     let (batch_times, batch_ids) = ([one, one], ids(&[8, 9]));

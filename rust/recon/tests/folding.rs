@@ -1,6 +1,6 @@
 //! Tables that take batches after their sessions, with their own buffers.
 #![cfg(feature = "alloc")]
-use recon::{sha256, Committed, Cut, Fold, Inquiry, Opener, Refusal, Responder, Session, Table, MAX_ITEMS};
+use recon::{sha256, Committed, Cut, Fold, Inquiry, Label, Opener, Refusal, Responder, Session, Table, MAX_ITEMS};
 use std::collections::BTreeSet;
 
 type Id = [u8; 32];
@@ -171,14 +171,19 @@ fn an_empty_batch_is_committed() {
     commit(&mut fold, &records(0..3));
 }
 
-/// What the table, the session and the list are refused for, before any batch.
-#[test]
-fn a_fold_is_judged_when_it_is_made() {
-    let done = |needed| Session {
+/// A session that is done. Its label is not compared.
+fn done(needed: usize) -> Session {
+    Session {
         marked: 0,
         needed,
         done: true,
-    };
+        label: Label::default(),
+    }
+}
+
+/// What the table, the session and the list are refused for, before any batch.
+#[test]
+fn a_fold_is_judged_when_it_is_made() {
     let refusal = |times: &[u64], ids: &[u8], session, needed: &[u8]| {
         Fold::new(times.to_vec(), ids.to_vec(), session, needed.to_vec()).err()
     };
@@ -216,12 +221,7 @@ fn a_table_grows_up_to_the_most_items() {
     let times: Vec<u64> = (0..MAX_ITEMS as u64 - 2).collect();
     let ids = vec![7; 32 * times.len()];
     let needed: Vec<u8> = (0..5).flat_map(|first| [first; 32]).collect();
-    let session = Session {
-        marked: 0,
-        needed: 5,
-        done: true,
-    };
-    let mut fold = Fold::new(times, ids, session, needed.clone()).unwrap();
+    let mut fold = Fold::new(times, ids, done(5), needed.clone()).unwrap();
     let batch_times = [9; 5];
     let batch = |range: std::ops::Range<usize>| Table {
         times: &batch_times[range.clone()],
@@ -242,8 +242,10 @@ fn a_table_grows_up_to_the_most_items() {
 fn debug_output_is_short() {
     let (ours, theirs) = (Lent::new(&records(0..5000)), Lent::new(&records(1..5001)));
     let fold = finished(&ours, &theirs, None).fold().unwrap();
+    let session = fold.session();
     assert_eq!(
         format!("{fold:?}"),
-        "Fold { items: 5000, session: Session { marked: 1, needed: 1, done: true }, .. }"
+        format!("Fold {{ items: 5000, session: {session:?}, .. }}")
     );
+    assert!(format!("{session:?}").len() < 200);
 }

@@ -1,6 +1,6 @@
 //! Known answers, written by hand: the message of an opening, and the fingerprint between two bounds. E4, E5, E6 and E10 are
 //! examples of the specification; the fingerprints are sha256sum's, of sums made by hand.
-use recon::{answer_query, fingerprint, open_session, take_reply, Bound, Cut, Refusal, Session, Table};
+use recon::{answer_query, fingerprint, open_session, take_reply, Bound, Cut, Label, Refusal, Session, Table};
 
 /// Bytes, or the number of a refusal.
 type Answer = Result<Vec<u8>, u64>;
@@ -16,6 +16,31 @@ impl Items {
     fn table(&self) -> Table<'_> {
         let Items { times, ids } = self;
         Table { times, ids }
+    }
+
+    /// The session that an opening leaves, the sum of its label added up byte by byte.
+    fn opened(&self) -> Session {
+        let mut bytes = [0; 32];
+        for id in self.ids.chunks_exact(32) {
+            let mut carry = 0;
+            for (byte, own) in bytes.iter_mut().zip(id) {
+                carry += u16::from(*byte) + u16::from(*own);
+                *byte = carry as u8;
+                carry >>= 8;
+            }
+        }
+        let word = |at: usize| u64::from_le_bytes(bytes[8 * at..8 * at + 8].try_into().unwrap());
+        let label = Label {
+            sum: [word(0), word(1), word(2), word(3)],
+            count: self.times.len() as u64,
+        };
+        let (marked, needed, done) = (0, 0, false);
+        Session {
+            marked,
+            needed,
+            done,
+            label,
+        }
     }
 }
 
@@ -244,8 +269,7 @@ fn opened(row: &Row, room: usize) -> Answer {
     assert!(marks.iter().all(|&m| m == mark), "{}: marks", row.name);
     match result {
         Ok(sent) => {
-            let (marked, needed, done) = (0, 0, false);
-            assert_eq!(sent.session, Session { marked, needed, done }, "{}", row.name);
+            assert_eq!(sent.session, row.items.opened(), "{}", row.name);
             out.truncate(sent.length);
             Ok(out)
         }
@@ -289,8 +313,7 @@ fn a_session_of_the_former_rule_is_carried_on() {
     assert_eq!(answer_query(ours.table(), cut, &query, &mut reply), Ok(1));
     assert_eq!(answer_query(theirs.table(), cut, &query, &mut reply), Ok(37));
     assert_eq!(reply[..37], bytes(&format!("61 08 00 02 01 01{}", "00".repeat(31))));
-    let (marked, needed, done) = (0, 0, false);
-    let opened = Session { marked, needed, done };
+    let opened = ours.opened();
     let sent = take_reply(ours.table(), cut, &reply[..37], opened, &mut marks, &mut [], &mut []).unwrap();
     assert_eq!((sent.length, sent.session.done, marks), (0, true, [0, 1, 0]));
 }

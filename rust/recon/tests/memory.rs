@@ -1,6 +1,6 @@
 //! What the two ends do where memory cannot be had, and how much of it they take.
 #![cfg(feature = "alloc")]
-use recon::{sha256, Cut, Fold, Opener, Refusal, Responder, Session, Table};
+use recon::{sha256, Cut, Fold, Label, Opener, Refusal, Responder, Session, Table};
 use std::alloc::{GlobalAlloc, Layout, System};
 use std::cell::Cell;
 
@@ -82,6 +82,16 @@ fn an_opening_needs_marks_and_room() {
     assert!(with_largest(ENOUGH, || Opener::open(many.table(), LISTS)).is_ok());
 }
 
+/// A session of an opener without records.
+fn session(needed: usize, done: bool) -> Session {
+    Session {
+        marked: 0,
+        needed,
+        done,
+        label: Label::default(),
+    }
+}
+
 #[test]
 fn an_answer_needs_room() {
     let many = Records::new(1000);
@@ -104,8 +114,7 @@ fn a_take_without_memory_for_the_ids_changes_nothing() {
     let reply = responder.answer(&query).unwrap();
     let refused = with_largest(TOO_SMALL, || opener.take(reply));
     assert_eq!(refused, Err(Refusal::NeededFull));
-    let (marked, needed, done) = (0, 0, false);
-    assert_eq!(opener.session(), Session { marked, needed, done });
+    assert_eq!(opener.session(), session(0, false));
     assert_eq!((opener.query(), opener.theirs_only().count()), (Some(&query[..]), 0));
     assert_eq!(opener.take(reply), Ok(()));
     assert_eq!((opener.query(), opener.theirs_only().count()), (None, 1000));
@@ -157,12 +166,8 @@ fn a_message_takes_no_more_memory_than_its_limit() {
 fn needing(records: &Records) -> Fold {
     let mut needed: Vec<&[u8]> = records.ids.chunks_exact(32).collect();
     needed.sort_unstable();
-    let session = Session {
-        marked: 0,
-        needed: needed.len(),
-        done: true,
-    };
-    Fold::new(Vec::new(), Vec::new(), session, needed.concat()).unwrap()
+    let done = session(needed.len(), true);
+    Fold::new(Vec::new(), Vec::new(), done, needed.concat()).unwrap()
 }
 
 #[test]

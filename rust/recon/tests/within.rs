@@ -1,5 +1,5 @@
 //! The calls with a byte limit: known answers, written by hand, their refusals in order, and the room that they need.
-use recon::{answer_query_within, open_session_within, take_reply_within, Cut, Refusal, Sent, Session, Table};
+use recon::{answer_query_within, open_session_within, take_reply_within, Cut, Label, Refusal, Sent, Session, Table};
 
 /// The ids 01 00, 01 01 .. 01 7F, then zeros, all of time 5.
 fn ids() -> Vec<u8> {
@@ -27,10 +27,15 @@ fn short() -> Vec<u8> {
     [&bound[..], &ids()[..32 * 127], &[0, 0, 1], &fingerprint].concat()
 }
 
+/// The sum of the ids is 128 × 1 + 256 × (0 + 1 + .. + 127).
 const OPEN: Session = Session {
     marked: 0,
     needed: 0,
     done: false,
+    label: Label {
+        sum: [2_080_896, 0, 0, 0],
+        count: 128,
+    },
 };
 
 /// What a call is handed. A fault makes it be refused.
@@ -146,12 +151,15 @@ fn messages_of_128_ids() {
 type Fault = fn(&mut Given);
 
 /// In the order of the checks, with those that an opening and an answer leave to others.
-const FAULTS: [(Refusal, bool, bool, Fault); 12] = [
+const FAULTS: [(Refusal, bool, bool, Fault); 13] = [
     (Refusal::TableSize, true, true, |given| given.ids.truncate(1)),
     (Refusal::TableOrder, true, true, |given| given.times[127] = 4),
     (Refusal::CutLimits, true, true, |given| given.cut.parts = 1),
     (Refusal::ByteLimit, true, true, |given| given.bytes = 4095),
     (Refusal::WrongState, true, false, |given| given.marks.truncate(127)),
+    (Refusal::OtherTable, false, false, |given| {
+        given.session.label.count += 1
+    }),
     (Refusal::SessionDone, false, false, |given| given.session.done = true),
     (Refusal::WrongVersion, false, true, |given| given.message.clear()),
     (Refusal::Truncated, false, true, |given| given.message.truncate(5)),
@@ -214,8 +222,8 @@ fn a_session_that_is_done() {
     );
     let session = Session {
         marked: 128,
-        needed: 0,
         done: true,
+        ..OPEN
     };
     assert_eq!(sent, Ok(Sent { length: 0, session }));
     assert_eq!(marks, [1; 128]);

@@ -1,6 +1,7 @@
 //! The two implementations behind one interface: the library, and the independent reference.
+use crate::label::{without_label, NO_SESSION};
 use crate::raw;
-use recon::{Bound, Committed, Cut, Inquiry, Refusal, RunLabel, Sent, Session, Table};
+use recon::{Bound, Committed, Cut, Inquiry, Label, Refusal, RunLabel, Sent, Session, Table};
 use reference::Odd;
 
 #[derive(Clone, Copy, Debug, PartialEq, Eq)]
@@ -8,25 +9,33 @@ pub enum Call {
     Open,
     Answer,
     Take,
+    /// The conversion of a session: of all that is lent, of the table, the session without its label, the marks and the
+    /// needed list.
+    Convert,
 }
 
 impl Call {
-    pub const ALL: [Call; 3] = [Call::Open, Call::Answer, Call::Take];
+    pub const ALL: [Call; 4] = [Call::Open, Call::Answer, Call::Take, Call::Convert];
+
+    /// Those that write a message, which can be given a byte limit.
+    pub const WRITING: [Call; 3] = [Call::Open, Call::Answer, Call::Take];
 
     pub fn name(self) -> &'static str {
         match self {
             Call::Open => "open",
             Call::Answer => "answer",
             Call::Take => "take",
+            Call::Convert => "convert",
         }
     }
 
-    /// The name of the call with a byte limit.
+    /// The name of the call with a byte limit, which a conversion has not.
     pub fn limited_name(self) -> &'static str {
         match self {
             Call::Open => "open within",
             Call::Answer => "answer within",
             Call::Take => "take within",
+            Call::Convert => "convert",
         }
     }
 
@@ -35,7 +44,16 @@ impl Call {
         match self {
             Call::Open => matches!(number, 1..=4 | 12 | 14),
             Call::Answer => matches!(number, 1..=3 | 6..=10 | 12 | 14),
-            Call::Take => matches!(number, 1..=12 | 14),
+            Call::Take => matches!(number, 1..=12 | 14 | 18),
+            Call::Convert => matches!(number, 1 | 2 | 4),
+        }
+    }
+
+    /// The session beside a refusal, of a call that was handed this one.
+    pub fn beside_refusal(self, session: Session) -> Session {
+        match self {
+            Call::Open | Call::Convert => NO_SESSION,
+            Call::Answer | Call::Take => session,
         }
     }
 }
@@ -91,7 +109,8 @@ impl FoldCall {
     }
 }
 
-/// All that a call is lent. An opening has no message and no session, and an answer no marks and no needed buffer.
+/// All that a call is lent. An opening has no message and no session, an answer no marks and no needed buffer, and a
+/// conversion no cut, no message and no out buffer, and no leave to write, which is checked.
 pub struct Lent<'a> {
     pub table: Table<'a>,
     pub cut: Cut,
@@ -199,13 +218,6 @@ pub trait Calls {
     fn fold(&self, call: FoldCall, lent: &mut FoldLent<'_>) -> FoldOutcome;
 }
 
-/// The session that a refused opening hands back: nothing is reported, and it is not done.
-const NO_SESSION: Session = Session {
-    marked: 0,
-    needed: 0,
-    done: false,
-};
-
 /// The proved library, called by the safe crate.
 pub struct Library;
 
@@ -216,19 +228,27 @@ impl Calls for Library {
 
     fn run(&self, call: Call, lent: &mut Lent<'_>) -> Outcome {
         assert_eq!(lent.odd, Odd::ToLast, "the library has no former rule");
-        safe_call(call, lent).map_err(|refusal| {
-            // The safe crate gives the number alone. A refused call changed nothing, so the C call must refuse again.
-            let again = raw::run(call, lent);
-            assert_eq!(
-                again.refusal,
-                refusal.number(),
-                "the C call refuses as the safe call does"
-            );
-            Refused {
-                number: small(refusal.number()),
-                session: again.session,
+        let result = safe_call(call, lent);
+        if result.is_ok() && call != Call::Convert {
+            return result.map_err(|_| unreachable!());
+        }
+        // The safe crate leaves out what stands beside a refusal, and the length of a conversion. Such a call has changed
+        // nothing, so the C call must answer the same again.
+        let again = raw::run(call, lent);
+        let number = result.err().map_or(0, Refusal::number);
+        assert_eq!(again.refusal, number, "the C call refuses as the safe call does");
+        assert_eq!(again.length, 0, "the length beside a refusal, or of a conversion");
+        let session = again.session;
+        match result {
+            Ok(sent) => {
+                assert_eq!(session, sent.session, "the C call answers as the safe call does");
+                Ok(sent)
             }
-        })
+            Err(_) => Err(Refused {
+                number: small(number),
+                session,
+            }),
+        }
     }
 
     fn fingerprint(&self, table: Table<'_>, lower: GivenBound<'_>, upper: GivenBound<'_>) -> Result<[u8; 16], u8> {
@@ -312,6 +332,10 @@ fn safe_call(call: Call, lent: &mut Lent<'_>) -> Result<Sent, Refusal> {
         (Call::Answer, Some(bytes)) => recon::answer_query_within(table, cut, bytes, message, out).map(answered),
         (Call::Take, None) => recon::take_reply(table, cut, message, session, marks, needed, out),
         (Call::Take, Some(bytes)) => recon::take_reply_within(table, cut, bytes, message, session, marks, needed, out),
+        (Call::Convert, _) => {
+            let converted = recon::convert_session(table, without_label(session), marks, needed);
+            converted.map(|session| Sent { length: 0, session })
+        }
     }
 }
 
@@ -356,9 +380,11 @@ impl Calls for Reference {
             Call::Answer => reference::answer_by(odd, times, ids, b, t, bytes, message, out)
                 .map(|length| reference::Sent { length, session: given }),
             Call::Take => reference::take_by(odd, times, ids, b, t, bytes, message, given, marks, needed, out),
+            Call::Convert => reference::convert(times, ids, given.unlabelled(), marks, needed)
+                .map(|session| reference::Sent { length: 0, session }),
         };
-        let kept = if call == Call::Open { NO_SESSION } else { session };
-        result.map(sent).map_err(|number| Refused { number, session: kept })
+        let session = call.beside_refusal(session);
+        result.map(sent).map_err(|number| Refused { number, session })
     }
 
     fn fingerprint(&self, table: Table<'_>, lower: GivenBound<'_>, upper: GivenBound<'_>) -> Result<[u8; 16], u8> {
@@ -409,19 +435,32 @@ fn committed(left: reference::Committed) -> FoldAnswer {
 }
 
 fn reference_session(session: Session) -> reference::Session {
-    let Session { marked, needed, done } = session;
-    reference::Session { marked, needed, done }
+    let Label { sum, count } = session.label;
+    reference::Session {
+        marked: session.marked,
+        needed: session.needed,
+        done: session.done,
+        label: reference::Label { sum, count },
+    }
 }
 
 fn safe_session(session: reference::Session) -> Session {
-    let reference::Session { marked, needed, done } = session;
-    Session { marked, needed, done }
+    Session {
+        marked: session.marked,
+        needed: session.needed,
+        done: session.done,
+        label: safe_label(session.label),
+    }
+}
+
+fn safe_label(label: reference::Label) -> Label {
+    let reference::Label { sum, count } = label;
+    Label { sum, count }
 }
 
 fn run_label(run: reference::RunLabel) -> RunLabel {
-    let reference::Label { sum, count } = run.label;
     RunLabel {
-        label: recon::Label { sum, count },
+        label: safe_label(run.label),
         visited: run.visited,
     }
 }

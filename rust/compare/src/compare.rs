@@ -3,9 +3,10 @@ use crate::calls::{Call, Calls, GivenBound, Reference, Refused, RunOutcome, Tree
 use crate::fold::{self, FoldAfter, FoldInput};
 use crate::guard::Side;
 use crate::input::{After, Input, Regions};
+use crate::label::{label_of, NO_SESSION};
 use crate::show;
 use crate::tree::{check_run, TreeAfter, TreeInput};
-use recon::{Sent, Table};
+use recon::{Sent, Session, Table};
 use reference::Odd;
 use std::fmt::Debug;
 
@@ -13,7 +14,7 @@ use std::fmt::Debug;
 pub type Check<T = ()> = Result<T, String>;
 
 /// How often each of some calls gave each number, 0 for no refusal.
-pub type Tally<const CALLS: usize> = [[u64; 18]; CALLS];
+pub type Tally<const CALLS: usize> = [[u64; 19]; CALLS];
 
 /// What was compared.
 #[derive(Clone, Default)]
@@ -24,7 +25,7 @@ pub struct Counts {
     /// Those of them with every slice beside an inaccessible page.
     pub guarded: u64,
     /// Of the calls of a session without a byte limit.
-    pub numbers: Tally<3>,
+    pub numbers: Tally<4>,
     /// Of those with a byte limit.
     pub limited_numbers: Tally<3>,
     /// Of the calls on trees.
@@ -178,11 +179,12 @@ impl<'a> Comparer<'a> {
         compare_after(&first, &second, &names)
             .and_then(|()| check_lent(input, &first, unchanged))
             .map_err(|text| format!("{}: {}", input.name(), text))?;
-        let numbers = match input.bytes {
-            None => &mut self.counts.numbers,
-            Some(_) => &mut self.counts.limited_numbers,
-        };
-        numbers[input.call as usize][usize::from(first.number())] += 1;
+        let (call, number) = (input.call as usize, usize::from(first.number()));
+        if input.is_limited() {
+            self.counts.limited_numbers[call][number] += 1;
+        } else {
+            self.counts.numbers[call][number] += 1;
+        }
         Ok(first)
     }
 
@@ -318,16 +320,55 @@ fn check_lent(input: &Input<'_>, after: &After, unchanged: bool) -> Check {
     }
 }
 
-/// A refused call leaves all as it was.
+/// A refused call leaves all as it was. A take is refused by 18 just where the labels differ, unless by an earlier check.
 fn check_refused(input: &Input<'_>, after: &After, refused: Refused) -> Check {
-    let what = |buffer| move || format!("refused by {}: {} before and afterwards", refused.number, buffer);
+    check_unchanged(input, after, &format!("refused by {}", refused.number))?;
+    let is_passed = matches!(refused.number, 5..=12);
+    if input.call != Call::Take || !is_passed && refused.number != 18 {
+        return Ok(());
+    }
+    let labels = (label_of(input.table), input.session.label);
+    if is_passed != (labels.0 == labels.1) {
+        return Err(format!(
+            "refused by {}, and the labels are {:?}",
+            refused.number, labels
+        ));
+    }
+    Ok(())
+}
+
+fn check_unchanged(input: &Input<'_>, after: &After, call: &str) -> Check {
+    let what = |buffer| move || format!("{}: {} before and afterwards", call, buffer);
     same_bytes(input.marks, &after.marks, what("marks"))?;
     same_bytes(input.needed, &after.needed, what("needed bytes"))?;
     same_bytes(input.out, &after.out, what("out bytes"))
 }
 
-/// Bytes behind the message and the list stay, and the session counts the marks.
+/// Openings and conversions put the label of the table into the session, and a take leaves it there.
+fn check_session(input: &Input<'_>, sent: Sent) -> Check {
+    let label = label_of(input.table);
+    let (before, session) = match input.call {
+        Call::Answer => return Ok(()),
+        Call::Open => (label, NO_SESSION),
+        Call::Convert => (label, input.session),
+        Call::Take => (input.session.label, sent.session),
+    };
+    let expected = Session { label, ..session };
+    if before != label || sent.session != expected {
+        return Err(format!(
+            "the label of the table: {:?} expected, both say {:?}",
+            expected, sent.session
+        ));
+    }
+    Ok(())
+}
+
+/// Bytes behind the message and the list stay, and the session counts the marks. A conversion writes nothing.
 fn check_sent(input: &Input<'_>, after: &After, sent: Sent) -> Check {
+    check_session(input, sent)?;
+    if input.call == Call::Convert {
+        check_unchanged(input, after, "a conversion")?;
+    }
     let listed = if input.call == Call::Take {
         32 * sent.session.needed
     } else {
@@ -336,7 +377,7 @@ fn check_sent(input: &Input<'_>, after: &After, sent: Sent) -> Check {
     if sent.length > input.out.len() || listed > input.needed.len() {
         return Err(format!("{:?} is more than the buffers hold", sent));
     }
-    if input.bytes.map_or(false, |bytes| sent.length > bytes) {
+    if input.is_limited() && input.bytes.map_or(false, |bytes| sent.length > bytes) {
         return Err(format!("{} bytes are more than the limit", sent.length));
     }
     let what = |buffer| move || format!("{} behind what was written", buffer);

@@ -60,10 +60,8 @@ impl Made<'_, '_> {
     /// Refuses after all.
     pub fn refuse(&mut self, outcome: &mut Outcome, number: u8) {
         self.undo();
-        *outcome = Err(Refused {
-            number,
-            session: self.lent.session,
-        });
+        let session = self.call.beside_refusal(self.lent.session);
+        *outcome = Err(Refused { number, session });
     }
 }
 

@@ -3,8 +3,9 @@ use crate::calls::Call;
 use crate::compare::{Check, Counts};
 use crate::demand::{Demand, Reports, Taken};
 use crate::generate::OwnedTable;
-use crate::input::{After, Input, NEW_SESSION};
+use crate::input::{After, Input};
 use crate::kinds::Case;
+use crate::label::new_session;
 use recon::{Cut, Sent, Session};
 use reference::Odd;
 use std::collections::BTreeMap;
@@ -120,8 +121,8 @@ impl<'a> Exchange<'a> {
         let whole_ids = 32 * case.rng.below(3);
         let needed = case.rng.bytes(whole_ids);
         let input = opener.input(Call::Open).by(rules[0]).within(limits[0]);
-        let (after, sent, query) = with_room(case, &input.with_state(NEW_SESSION, &marks, &needed))?;
-        if after.marks.iter().any(|&mark| mark != 0) || sent.session != NEW_SESSION {
+        let (after, sent, query) = with_room(case, &input.opened(&marks, &needed))?;
+        if after.marks.iter().any(|&mark| mark != 0) || sent.session != new_session(opener.table.lent()) {
             return Err("the opening leaves marks or another session than a new one".to_string());
         }
         Ok(Exchange {

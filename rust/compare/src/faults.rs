@@ -5,7 +5,7 @@ use crate::compare::Check;
 use crate::generate::{from_text, OwnedTable};
 use crate::input::Input;
 use crate::kinds::expect_number;
-use recon::{Cut, Session, MAX_ITEMS};
+use recon::{Cut, Label, Session, MAX_ITEMS};
 use reference::Odd;
 use std::mem::swap;
 use std::rc::Rc;
@@ -121,17 +121,20 @@ pub struct Fault {
     take_only: bool,
 }
 
-impl Fault {
-    fn applies_to(&self, call: Call) -> bool {
-        call.can_refuse_by(self.number) && (call == Call::Take || !self.take_only)
+/// The place of a number among the checks: 14 comes right after 3, and 18 right after 4.
+pub fn place(number: u8) -> (u8, bool) {
+    match number {
+        14 => (3, true),
+        18 => (4, true),
+        number => (number, false),
     }
+}
 
-    /// Its place among the checks: 14 comes right after 3.
-    fn place(&self) -> (u8, bool) {
-        match self.number {
-            14 => (3, true),
-            number => (number, false),
-        }
+impl Fault {
+    /// A conversion judges what a take does.
+    fn applies_to(&self, call: Call) -> bool {
+        let is_judged = matches!(call, Call::Take | Call::Convert) || !self.take_only;
+        call.can_refuse_by(self.number) && is_judged
     }
 
     fn goes_by_reading(&self) -> bool {
@@ -165,7 +168,7 @@ impl AnyFault for Fault {
             Some(self.number).filter(|&number| number != 7)
         } else if self.number == other.number {
             None
-        } else if self.place() < other.place() {
+        } else if place(self.number) < place(other.number) {
             Some(self.number)
         } else {
             Some(other.number)
@@ -213,6 +216,7 @@ pub fn faults_of(call: Call) -> Vec<Fault> {
         byte_limit_faults(),
         buffer_faults(),
         session_faults(),
+        label_faults(),
         message_faults(),
         room_faults(),
     ];
@@ -379,6 +383,38 @@ fn session_faults() -> Vec<Fault> {
         state("the most needed ids of all", |d| d.session.needed = usize::MAX),
         edit(5, "a session that is done", |d| d.session.done = true),
     ]
+}
+
+/// 18. Each word of the sum, and the count.
+fn label_faults() -> Vec<Fault> {
+    vec![
+        edit(18, "the first word of the sum one more", |d| change_word(d, 0, 1)),
+        edit(18, "the second word of the sum one more", |d| change_word(d, 1, 1)),
+        edit(18, "the third word of the sum one more", |d| change_word(d, 2, 1)),
+        edit(18, "the last word of the sum one more", |d| change_word(d, 3, 1)),
+        edit(18, "the last word of the sum 2^63 more", |d| change_word(d, 3, 1 << 63)),
+        edit(18, "the count one more", |d| {
+            let count = &mut d.session.label.count;
+            *count = count.wrapping_add(1);
+        }),
+        edit(18, "the count one less", |d| {
+            let count = &mut d.session.label.count;
+            *count = count.wrapping_sub(1);
+        }),
+        edit(18, "the count 2^32 more", |d| d.session.label.count ^= 1 << 32),
+        edit(18, "the empty label", |d| d.session.label = Label::default()),
+        edit(18, "the sum of no items", |d| d.session.label.sum = [0; 4]),
+        edit(18, "the words of the sum the other way round", |d| {
+            // A sum that reads the same both ways is another one then.
+            d.session.label.sum.reverse();
+            change_word(d, 0, 1);
+        }),
+    ]
+}
+
+fn change_word(draft: &mut Draft, at: usize, by: u64) {
+    let word = &mut draft.session.label.sum[at];
+    *word = word.wrapping_add(by);
 }
 
 /// 6, and the faults that go by reading.

@@ -2,16 +2,10 @@
 use crate::calls::{Call, Calls, FoldLent, GivenBound, GivenItem, Lent, Outcome, RunOutcome};
 use crate::fold::{FoldAfter, FoldInput};
 use crate::guard::{Region, Side, ROOM};
+use crate::label::{new_session, NO_SESSION};
 use crate::tree::{TreeAfter, TreeInput};
 use recon::{Cut, Session, Table};
 use reference::Odd;
-
-/// The session that an opening leaves.
-pub const NEW_SESSION: Session = Session {
-    marked: 0,
-    needed: 0,
-    done: false,
-};
 
 /// What a call is handed.
 #[derive(Clone, Copy)]
@@ -49,7 +43,7 @@ impl After {
 }
 
 impl<'a> Input<'a> {
-    /// A call by the rule of today about a table with a new session, without byte limit, message and buffers.
+    /// A call by the rule of today about a table, without byte limit, message, session and buffers.
     pub fn new(call: Call, table: Table<'a>, cut: Cut) -> Input<'a> {
         Input {
             call,
@@ -58,7 +52,7 @@ impl<'a> Input<'a> {
             odd: Odd::ToLast,
             bytes: None,
             message: &[],
-            session: NEW_SESSION,
+            session: NO_SESSION,
             marks: &[],
             needed: &[],
             out: &[],
@@ -79,6 +73,11 @@ impl<'a> Input<'a> {
         Input { message, ..self }
     }
 
+    /// With the session that an opening of the table leaves, and any buffers.
+    pub fn opened(self, marks: &'a [u8], needed: &'a [u8]) -> Input<'a> {
+        self.with_state(new_session(self.table), marks, needed)
+    }
+
     pub fn with_state(self, session: Session, marks: &'a [u8], needed: &'a [u8]) -> Input<'a> {
         Input {
             session,
@@ -86,6 +85,15 @@ impl<'a> Input<'a> {
             needed,
             ..self
         }
+    }
+
+    /// The same for another call.
+    pub fn of(self, call: Call) -> Input<'a> {
+        Input { call, ..self }
+    }
+
+    pub fn with_table(self, table: Table<'a>) -> Input<'a> {
+        Input { table, ..self }
     }
 
     pub fn with_needed(self, needed: &'a [u8]) -> Input<'a> {
@@ -103,11 +111,17 @@ impl<'a> Input<'a> {
         1 + 60 * self.table.times.len() + 48 * (self.message.len() / 3 + 1)
     }
 
+    /// Whether the call has a byte limit; a conversion has none.
+    pub fn is_limited(&self) -> bool {
+        self.bytes.is_some() && self.call != Call::Convert
+    }
+
     /// The name of the call, with its limit or without.
     pub fn name(&self) -> &'static str {
-        match self.bytes {
-            None => self.call.name(),
-            Some(_) => self.call.limited_name(),
+        if self.is_limited() {
+            self.call.limited_name()
+        } else {
+            self.call.name()
         }
     }
 

@@ -23,6 +23,7 @@ mod generate;
 mod guard;
 mod input;
 mod kinds;
+mod label;
 mod raw;
 mod rng;
 mod run;

@@ -1,11 +1,27 @@
 //! The C calls where they can say more than the safe crate: what stands beside a refusal, and a prefix at infinity.
 //! Declared as in include/recon.h.
 use crate::calls::{Call, FoldAnswer, FoldCall, FoldLent, GivenBound, Lent};
+use crate::label::without_label;
 use recon::{Committed, Inquiry, Label, RunLabel, Session, Table};
 
 #[repr(C)]
 #[derive(Clone, Copy)]
+struct CLabel {
+    sum: [u64; 4],
+    count: u64,
+}
+
+#[repr(C)]
+#[derive(Clone, Copy)]
 struct CSession {
+    marked: usize,
+    needed: usize,
+    done: bool,
+    label: CLabel,
+}
+
+#[repr(C)]
+struct CUnlabelledSession {
     marked: usize,
     needed: usize,
     done: bool,
@@ -14,20 +30,14 @@ struct CSession {
 #[repr(C)]
 struct CAnswer {
     refusal: u64,
-    _length: usize,
+    length: usize,
 }
 
 #[repr(C)]
 struct CSessionAnswer {
     refusal: u64,
-    _length: usize,
+    length: usize,
     session: CSession,
-}
-
-#[repr(C)]
-struct CLabel {
-    sum: [u64; 4],
-    count: u64,
 }
 
 #[repr(C)]
@@ -53,15 +63,31 @@ struct CCommitAnswer {
 
 impl From<Session> for CSession {
     fn from(session: Session) -> CSession {
-        let Session { marked, needed, done } = session;
-        CSession { marked, needed, done }
+        let Label { sum, count } = session.label;
+        CSession {
+            marked: session.marked,
+            needed: session.needed,
+            done: session.done,
+            label: CLabel { sum, count },
+        }
     }
 }
 
 impl From<CSession> for Session {
     fn from(session: CSession) -> Session {
-        let CSession { marked, needed, done } = session;
-        Session { marked, needed, done }
+        Session {
+            marked: session.marked,
+            needed: session.needed,
+            done: session.done,
+            label: session.label.into(),
+        }
+    }
+}
+
+impl From<CLabel> for Label {
+    fn from(label: CLabel) -> Label {
+        let CLabel { sum, count } = label;
+        Label { sum, count }
     }
 }
 
@@ -93,6 +119,10 @@ extern "C" {
         reply: *const u8, reply_len: usize, session: CSession, marks: *mut u8, marks_len: usize,
         needed: *mut u8, needed_len: usize, out: *mut u8, out_len: usize,
     ) -> CSessionAnswer;
+    fn recon_session_convert(
+        times: *const u64, times_len: usize, ids: *const u8, ids_len: usize, session: CUnlabelledSession,
+        marks: *const u8, marks_len: usize, needed: *const u8, needed_len: usize,
+    ) -> CSessionAnswer;
     fn recon_fingerprint(
         times: *const u64, times_len: usize, ids: *const u8, ids_len: usize,
         lower_infinite: bool, lower_time: u64, lower_prefix: *const u8, lower_prefix_len: usize,
@@ -111,29 +141,46 @@ extern "C" {
     ) -> CCommitAnswer;
 }
 
-/// The number and the session that a C call answers with.
+/// What a C call answers with.
 pub struct Told {
     pub refusal: u64,
+    pub length: usize,
     pub session: Session,
 }
 
+impl From<CSessionAnswer> for Told {
+    fn from(answer: CSessionAnswer) -> Told {
+        Told {
+            refusal: answer.refusal,
+            length: answer.length,
+            session: answer.session.into(),
+        }
+    }
+}
+
 impl Told {
-    fn of(refusal: u64, session: CSession) -> Told {
-        let session = session.into();
-        Told { refusal, session }
+    /// What an answer is told with: the session that was lent.
+    fn of(answer: CAnswer, session: Session) -> Told {
+        let CAnswer { refusal, length } = answer;
+        Told {
+            refusal,
+            length,
+            session,
+        }
     }
 }
 
 /// Makes a C call. An answer has no session: the one that was lent is told.
 pub fn run(call: Call, lent: &mut Lent<'_>) -> Told {
-    let session = lent.session.into();
+    let session = lent.session;
     match (call, lent.bytes) {
-        (Call::Open, None) => open(lent),
-        (Call::Open, Some(bytes)) => open_within(lent, bytes),
+        (Call::Open, None) => open(lent).into(),
+        (Call::Open, Some(bytes)) => open_within(lent, bytes).into(),
         (Call::Answer, None) => Told::of(answer(lent), session),
         (Call::Answer, Some(bytes)) => Told::of(answer_within(lent, bytes), session),
-        (Call::Take, None) => take(lent, session),
-        (Call::Take, Some(bytes)) => take_within(lent, bytes, session),
+        (Call::Take, None) => take(lent, session.into()).into(),
+        (Call::Take, Some(bytes)) => take_within(lent, bytes, session.into()).into(),
+        (Call::Convert, _) => convert(lent).into(),
     }
 }
 
@@ -141,85 +188,92 @@ pub fn run(call: Call, lent: &mut Lent<'_>) -> Told {
 // to as many elements; the written slices are borrowed mutably, so they overlap no other. The calls ask for no more.
 
 #[rustfmt::skip]
-fn open(lent: &mut Lent<'_>) -> Told {
+fn open(lent: &mut Lent<'_>) -> CSessionAnswer {
     let (Table { times, ids }, cut) = (lent.table, lent.cut);
     // SAFETY: see above.
-    let answer = unsafe {
+    unsafe {
         recon_open(
             times.as_ptr(), times.len(), ids.as_ptr(), ids.len(), cut.parts, cut.limit,
             lent.marks.as_mut_ptr(), lent.marks.len(), lent.needed.as_ptr(), lent.needed.len(),
             lent.out.as_mut_ptr(), lent.out.len(),
         )
-    };
-    Told::of(answer.refusal, answer.session)
+    }
 }
 
 #[rustfmt::skip]
-fn answer(lent: &mut Lent<'_>) -> u64 {
+fn answer(lent: &mut Lent<'_>) -> CAnswer {
     let (Table { times, ids }, cut) = (lent.table, lent.cut);
     // SAFETY: see above.
-    let answer = unsafe {
+    unsafe {
         recon_answer(
             times.as_ptr(), times.len(), ids.as_ptr(), ids.len(), cut.parts, cut.limit,
             lent.message.as_ptr(), lent.message.len(), lent.out.as_mut_ptr(), lent.out.len(),
         )
-    };
-    answer.refusal
+    }
 }
 
 #[rustfmt::skip]
-fn take(lent: &mut Lent<'_>, session: CSession) -> Told {
+fn take(lent: &mut Lent<'_>, session: CSession) -> CSessionAnswer {
     let (Table { times, ids }, cut) = (lent.table, lent.cut);
     // SAFETY: see above.
-    let answer = unsafe {
+    unsafe {
         recon_take(
             times.as_ptr(), times.len(), ids.as_ptr(), ids.len(), cut.parts, cut.limit,
             lent.message.as_ptr(), lent.message.len(), session, lent.marks.as_mut_ptr(), lent.marks.len(),
             lent.needed.as_mut_ptr(), lent.needed.len(), lent.out.as_mut_ptr(), lent.out.len(),
         )
-    };
-    Told::of(answer.refusal, answer.session)
+    }
 }
 
 #[rustfmt::skip]
-fn open_within(lent: &mut Lent<'_>, bytes: usize) -> Told {
+fn open_within(lent: &mut Lent<'_>, bytes: usize) -> CSessionAnswer {
     let (Table { times, ids }, cut) = (lent.table, lent.cut);
     // SAFETY: see above.
-    let answer = unsafe {
+    unsafe {
         recon_open_within(
             times.as_ptr(), times.len(), ids.as_ptr(), ids.len(), cut.parts, cut.limit, bytes,
             lent.marks.as_mut_ptr(), lent.marks.len(), lent.needed.as_ptr(), lent.needed.len(),
             lent.out.as_mut_ptr(), lent.out.len(),
         )
-    };
-    Told::of(answer.refusal, answer.session)
+    }
 }
 
 #[rustfmt::skip]
-fn answer_within(lent: &mut Lent<'_>, bytes: usize) -> u64 {
+fn answer_within(lent: &mut Lent<'_>, bytes: usize) -> CAnswer {
     let (Table { times, ids }, cut) = (lent.table, lent.cut);
     // SAFETY: see above.
-    let answer = unsafe {
+    unsafe {
         recon_answer_within(
             times.as_ptr(), times.len(), ids.as_ptr(), ids.len(), cut.parts, cut.limit, bytes,
             lent.message.as_ptr(), lent.message.len(), lent.out.as_mut_ptr(), lent.out.len(),
         )
-    };
-    answer.refusal
+    }
 }
 
 #[rustfmt::skip]
-fn take_within(lent: &mut Lent<'_>, bytes: usize, session: CSession) -> Told {
+fn take_within(lent: &mut Lent<'_>, bytes: usize, session: CSession) -> CSessionAnswer {
     let (Table { times, ids }, cut) = (lent.table, lent.cut);
     // SAFETY: see above.
-    let answer = unsafe {
+    unsafe {
         recon_take_within(
             times.as_ptr(), times.len(), ids.as_ptr(), ids.len(), cut.parts, cut.limit, bytes,
             lent.message.as_ptr(), lent.message.len(), session, lent.marks.as_mut_ptr(), lent.marks.len(),
             lent.needed.as_mut_ptr(), lent.needed.len(), lent.out.as_mut_ptr(), lent.out.len(),
         )
-    };
-    Told::of(answer.refusal, answer.session)
+    }
+}
+
+#[rustfmt::skip]
+fn convert(lent: &Lent<'_>) -> CSessionAnswer {
+    let (Table { times, ids }, kept) = (lent.table, without_label(lent.session));
+    let session = CUnlabelledSession { marked: kept.marked, needed: kept.needed, done: kept.done };
+    // SAFETY: see above.
+    unsafe {
+        recon_session_convert(
+            times.as_ptr(), times.len(), ids.as_ptr(), ids.len(), session,
+            lent.marks.as_ptr(), lent.marks.len(), lent.needed.as_ptr(), lent.needed.len(),
+        )
+    }
 }
 
 /// The C fingerprint call: its refusal, or 0 and the fingerprint in `out`.
@@ -240,9 +294,7 @@ pub fn fingerprint(table: Table<'_>, lower: GivenBound<'_>, upper: GivenBound<'_
 pub fn tree_label(tree: &[u8], from: usize, to: usize) -> (u64, RunLabel) {
     // SAFETY: see above.
     let answer = unsafe { recon_tree_label(tree.as_ptr(), tree.len(), from, to) };
-    let CLabel { sum, count } = answer.label;
-    let label = Label { sum, count };
-    let visited = answer.visited;
+    let (label, visited) = (answer.label.into(), answer.visited);
     (answer.refusal, RunLabel { label, visited })
 }
 

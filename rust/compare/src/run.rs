@@ -125,7 +125,7 @@ fn numbers(totals: &Counts) -> Vec<Numbers<'_>> {
         let counts = &totals.numbers[call as usize];
         Numbers::new(call.name(), counts, |number| number != 14 && call.can_refuse_by(number))
     });
-    let limited_calls = Call::ALL.iter().map(|&call| {
+    let limited_calls = Call::WRITING.iter().map(|&call| {
         let counts = &totals.limited_numbers[call as usize];
         Numbers::new(call.limited_name(), counts, |number| call.can_refuse_by(number))
     });

@@ -2,6 +2,7 @@
 use crate::calls::{Call, GivenBound, TreeCall};
 use crate::fold::FoldInput;
 use crate::input::Input;
+use crate::label::without_label;
 use crate::tree::TreeInput;
 use recon::Table;
 use reference::Odd;
@@ -35,6 +36,10 @@ fn table(table: Table<'_>) -> String {
 
 pub fn input(input: &Input<'_>) -> String {
     let mut text = format!("{}\n{}", input.name(), table(input.table));
+    if input.call == Call::Convert {
+        let (session, marks, needed) = (without_label(input.session), bytes(input.marks), bytes(input.needed));
+        return text + &format!("  {:?}\n  marks: {}\n  needed: {}\n", session, marks, needed);
+    }
     text += &format!("  parts {}, limit {}\n", input.cut.parts, input.cut.limit);
     if input.odd == Odd::ToFirst {
         text += "  by the former rule, which the library does not have\n";

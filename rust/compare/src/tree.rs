@@ -2,6 +2,7 @@
 use crate::calls::{Calls, GivenItem, TreeCall};
 use crate::compare::{same_bytes, Check};
 use crate::generate::Id;
+use crate::label::Sum;
 use recon::{Label, RunLabel, Table, LABEL_BYTES};
 
 /// What a build or an append is handed.
@@ -135,56 +136,6 @@ fn visits(places: usize, from: usize, to: usize) -> u64 {
         u64::from(begins) + u64::from(ends) - u64::from(is_same)
     });
     1 + 2 * opened.sum::<u64>()
-}
-
-/// A label, whose sum is added up byte by byte.
-#[derive(Clone, Default)]
-pub struct Sum {
-    bytes: Id,
-    count: u64,
-}
-
-impl Sum {
-    /// The label that has these bytes in a tree.
-    pub fn of_stored(bytes: &[u8]) -> Sum {
-        let mut sum = Sum::default();
-        let (id, count) = bytes.split_at(32);
-        let count = count.iter().rev().fold(0, |count, &byte| count << 8 | u64::from(byte));
-        sum.add(id, count);
-        sum
-    }
-
-    /// The bytes that it has in a tree.
-    pub fn stored(&self) -> Vec<u8> {
-        [&self.bytes[..], &self.count.to_le_bytes()].concat()
-    }
-
-    /// Adds 32 bytes of sum, least significant first, and a count.
-    pub fn add(&mut self, bytes: &[u8], count: u64) {
-        let mut carry = 0;
-        for (own, byte) in self.bytes.iter_mut().zip(bytes) {
-            let total = u16::from(*own) + u16::from(*byte) + carry;
-            *own = total as u8;
-            carry = total >> 8;
-        }
-        self.count = self.count.wrapping_add(count);
-    }
-
-    pub fn add_sum(&mut self, other: &Sum) {
-        self.add(&other.bytes, other.count);
-    }
-
-    pub fn label(&self) -> Label {
-        let word = |i: usize| {
-            (0..8)
-                .rev()
-                .fold(0, |word, byte| word << 8 | u64::from(self.bytes[8 * i + byte]))
-        };
-        Label {
-            sum: [word(0), word(1), word(2), word(3)],
-            count: self.count,
-        }
-    }
 }
 
 /// What an append to any tree leaves: the label of its id at its place, those above it from their two halves, and all

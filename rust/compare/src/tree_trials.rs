@@ -1,7 +1,8 @@
 //! The damages of the self-check in the calls on trees of labels.
 use crate::calls::{Calls, Reference, RunOutcome, TreeCall};
 use crate::damage::Damage;
-use crate::tree::{bytes_of, places_of, places_over, stored, Sum, TreeInput};
+use crate::label::Sum;
+use crate::tree::{bytes_of, places_of, places_over, stored, TreeInput};
 use crate::trials::{flip, trial, Trial};
 use recon::{RunLabel, LABEL_BYTES, MAX_ITEMS};
 

@@ -49,7 +49,7 @@ pub fn flip(bytes: &mut [u8], at: usize) {
 
 /// Damages of one side, that comparing has to find.
 pub fn one_sided() -> Vec<Trial> {
-    let renumbered = (1..=12).chain([14]).map(|number| {
+    let renumbered = (1..=12).chain([14, 18]).map(|number| {
         let other = if number < 12 { number + 1 } else { 11 };
         let name = format!("refusal {} is told as {}", number, other);
         trial("refusals", "answer Err", name, Damage::Renumber(number, other))

@@ -5,9 +5,10 @@ use crate::compare::{same_bytes, Check};
 use crate::exchange::{End, Ends, Exchange};
 use crate::fold_faults::FoldDraft;
 use crate::generate::{from_text, id_from, Item, OwnedTable};
-use crate::input::{After, NEW_SESSION};
+use crate::input::After;
+use crate::label::{without_label, NO_SESSION};
 use crate::tree::TreeInput;
-use recon::{Cut, Session};
+use recon::{Cut, Session, UnlabelledSession};
 
 type Example = fn(&mut Case<'_, '_>) -> Check;
 
@@ -149,7 +150,7 @@ fn both_ways(case: &mut Case<'_, '_>, table: &OwnedTable, bytes: &[u8], number: 
     let (marks, needed, out) = (vec![0; table.count()], case.rng.bytes(128), case.rng.bytes(400));
     for call in [Call::Answer, Call::Take] {
         let input = end(table, 2, 2).input(call).with_message(bytes).with_out(&out);
-        case.expect(&input.with_state(NEW_SESSION, &marks, &needed), number)?;
+        case.expect(&input.opened(&marks, &needed), number)?;
     }
     Ok(())
 }
@@ -169,7 +170,7 @@ fn opened(case: &mut Case<'_, '_>, opener: End<'_>) -> Check<After> {
     let marks = case.rng.bytes(opener.table.count());
     let out = case.rng.bytes(20_000);
     let input = opener.input(Call::Open).with_out(&out);
-    case.expect(&input.with_state(NEW_SESSION, &marks, &[]), 0)
+    case.expect(&input.opened(&marks, &[]), 0)
 }
 
 /// A take after the opening, with parts and limit 2 and room for four needed ids.
@@ -177,7 +178,7 @@ fn taken(case: &mut Case<'_, '_>, table: &OwnedTable, reply: &str) -> Check<Afte
     let reply = from_text(reply);
     let (marks, needed, out) = (vec![0; table.count()], case.rng.bytes(128), case.rng.bytes(400));
     let input = end(table, 2, 2).input(Call::Take).with_message(&reply).with_out(&out);
-    case.expect(&input.with_state(NEW_SESSION, &marks, &needed), 0)
+    case.expect(&input.opened(&marks, &needed), 0)
 }
 
 fn same(first: &[u8], second: &[u8], what: &str) -> Check {
@@ -189,9 +190,9 @@ fn written(after: &After, text: &str) -> Check {
 }
 
 fn session(after: &After, marked: usize, needed: usize, done: bool) -> Check {
-    let expected = Session { marked, needed, done };
+    let expected = UnlabelledSession { marked, needed, done };
     match after.outcome {
-        Ok(sent) if sent.session == expected => Ok(()),
+        Ok(sent) if without_label(sent.session) == expected => Ok(()),
         outcome => Err(format!("{:?} expected, both say {:?}", expected, outcome)),
     }
 }
@@ -242,7 +243,7 @@ fn time_code(case: &mut Case<'_, '_>, value: u64, bytes: &str) -> Check {
 /// An opening with exact room, and with one byte less.
 fn exact_room(case: &mut Case<'_, '_>, opener: End<'_>, length: usize) -> Check {
     let (marks, out) = (case.rng.bytes(opener.table.count()), case.rng.bytes(length));
-    let input = opener.input(Call::Open).with_state(NEW_SESSION, &marks, &[]);
+    let input = opener.input(Call::Open).opened(&marks, &[]);
     case.expect(&input.with_out(&out), 0)?;
     case.expect(&input.with_out(&out[1..]), 12)?;
     Ok(())
@@ -322,7 +323,7 @@ fn other_version(case: &mut Case<'_, '_>) -> Check {
     let (message, out) = (from_text("62 80"), case.rng.bytes(400));
     let none = OwnedTable::default();
     let input = end(&none, 2, 2).input(Call::Take).with_message(&message).with_out(&out);
-    case.expect(&input.with_state(NEW_SESSION, &[], &[]), 6)?;
+    case.expect(&input.opened(&[], &[]), 6)?;
     Ok(())
 }
 
@@ -443,9 +444,9 @@ fn byte_limits(case: &mut Case<'_, '_>) -> Check {
         (4_095, 14, &[]),
         (0, 14, &[]),
     ] {
-        for call in Call::ALL {
+        for call in Call::WRITING {
             let input = end(&own, 2, 128).input(call).within(Some(limit)).with_message(&message);
-            let after = case.expect(&input.with_state(NEW_SESSION, &marks, &[]).with_out(&out), number)?;
+            let after = case.expect(&input.opened(&marks, &[]).with_out(&out), number)?;
             same(after.message(), expected, "the message and the expected one")?;
         }
     }
@@ -475,6 +476,7 @@ fn batch(items: &[(u64, u8)], room: usize) -> FoldDraft {
         marked: 7,
         needed: 3,
         done: true,
+        ..NO_SESSION
     };
     let mut draft = FoldDraft::new(&own, session, &ids(&[2, 3, 4]), &OwnedTable::of(&batch));
     draft.times.resize(room, 1_000);

@@ -8,7 +8,7 @@ use crate::fold_faults::{fold_faults, FoldDraft};
 use crate::generate::{items, Id, Item, OwnedTable, Shape, LAST_TIME, SHAPES};
 use crate::rng::Rng;
 use crate::story;
-use recon::Session;
+use recon::{Label, Session};
 use std::collections::BTreeSet;
 
 const GROUPS: [Group; 6] = [
@@ -46,12 +46,16 @@ pub fn run(case: &mut Case<'_, '_>) -> Check {
     Group::run(&GROUPS, case)
 }
 
-/// A session that is done. The count of its marks is not judged.
+/// A session that is done. Neither the count of its marks nor its label is judged.
 fn done(rng: &mut Rng, needed: usize) -> Session {
     Session {
         marked: rng.pick(&[0, 3, usize::MAX]),
         needed,
         done: true,
+        label: Label {
+            sum: [rng.word(), rng.word(), rng.word(), rng.word()],
+            count: rng.word(),
+        },
     }
 }
 

@@ -4,7 +4,6 @@ use crate::calls::{Call, GivenBound, GivenItem};
 use crate::compare::Check;
 use crate::exchange::{End, Ends, Exchange};
 use crate::generate::OwnedTable;
-use crate::input::NEW_SESSION;
 use crate::tree::TreeInput;
 use recon::{Cut, Table, MAX_ITEMS};
 
@@ -54,7 +53,7 @@ fn openings(case: &mut Case<'_, '_>) -> Check {
     for cut in [LARGEST_CUT, SMALLEST_CUT, MIDDLE_CUT] {
         let opener = End { table: &largest, cut };
         let input = opener.input(Call::Open).with_out(&out);
-        case.expect(&input.with_state(NEW_SESSION, &marks, &[]), 0)?;
+        case.expect(&input.opened(&marks, &[]), 0)?;
     }
     Ok(())
 }
@@ -96,7 +95,7 @@ fn each_call(case: &mut Case<'_, '_>, table: &OwnedTable, number: u8) -> Check {
     let cut = LARGEST_CUT;
     for call in Call::ALL {
         let input = End { table, cut }.input(call).with_message(&[0x61]).with_out(&out);
-        case.expect(&input.with_state(NEW_SESSION, &marks, &[]), number)?;
+        case.expect(&input.opened(&marks, &[]), number)?;
     }
     Ok(())
 }

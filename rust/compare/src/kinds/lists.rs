@@ -6,6 +6,7 @@ use crate::calls::Call;
 use crate::compare::Check;
 use crate::exchange::End;
 use crate::generate::{whole_ids, Id, OwnedTable};
+use crate::label::new_session;
 use crate::rng::Rng;
 use recon::{Cut, Session};
 use reference::{spell, Bound, Payload, Range};
@@ -30,7 +31,11 @@ pub fn run(case: &mut Case<'_, '_>) -> Check {
     let needed = some_sorted(&mut case.rng, &fresh, count / 10);
     let reply = spell(&ranges(&mut case.rng, &own, &fresh));
     let input = End { table: &own, cut: CUT }.input(Call::Take).with_message(&reply);
-    let (marks, session) = (vec![0; own.count()], session(needed.len()));
+    let marks = vec![0; own.count()];
+    let session = Session {
+        needed: needed.len(),
+        ..new_session(own.lent())
+    };
     let list = needed.concat();
     let (length, ids) = case.room(&input.with_state(session, &marks, &list))?;
     let out = case.rng.bytes(length);
@@ -40,14 +45,6 @@ pub fn run(case: &mut Case<'_, '_>) -> Check {
         case.expect(&input.with_state(session, &marks, &buffer).with_out(&out), number)?;
     }
     Ok(())
-}
-
-fn session(needed: usize) -> Session {
-    Session {
-        marked: 0,
-        needed,
-        done: false,
-    }
 }
 
 /// A random id; the first bytes of all of them are alike.

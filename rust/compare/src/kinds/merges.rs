@@ -6,6 +6,7 @@ use crate::calls::FoldCall;
 use crate::compare::Check;
 use crate::fold::FoldInput;
 use crate::generate::{whole_ids, Id, OwnedTable};
+use crate::label::NO_SESSION;
 use crate::rng::Rng;
 use recon::{Session, Table, MAX_ITEMS};
 
@@ -29,12 +30,12 @@ fn first(table: &OwnedTable, count: usize) -> Table<'_> {
     }
 }
 
-/// A session that is done and needs so many ids.
+/// A session that is done and needs so many ids. No label is compared.
 pub fn done(needed: usize) -> Session {
     Session {
-        marked: 0,
         needed,
         done: true,
+        ..NO_SESSION
     }
 }
 

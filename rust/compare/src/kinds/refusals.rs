@@ -5,7 +5,7 @@ use crate::compare::Check;
 use crate::exchange::End;
 use crate::faults::{faults_of, with_first, Draft};
 use crate::generate::{first_16, id_from, lawful_limit, OwnedTable};
-use crate::input::NEW_SESSION;
+use crate::label::{new_session, NO_SESSION};
 use crate::rng::Rng;
 use recon::{Cut, Session};
 use reference::{Bound, Payload, Range};
@@ -39,7 +39,7 @@ pub fn run(case: &mut Case<'_, '_>) -> Check {
 }
 
 /// A lawful input with exact room that every check looks at: items, marks of both kinds, a list with ids to come.
-fn lawful(case: &mut Case<'_, '_>, call: Call) -> Check<Draft> {
+pub fn lawful(case: &mut Case<'_, '_>, call: Call) -> Check<Draft> {
     let rng = &mut case.rng;
     let count = rng.between(3, 9);
     let table = rising_table(rng, count);
@@ -49,9 +49,9 @@ fn lawful(case: &mut Case<'_, '_>, call: Call) -> Check<Draft> {
         table: &table,
         cut: Cut { parts, limit },
     };
-    let (session, marks, mut needed) = state(rng, call, count);
+    let (session, marks, mut needed) = state(rng, call, &table);
     let message = open_message(rng, &table);
-    let bytes = lawful_limit(rng);
+    let bytes = lawful_limit(rng).filter(|_| call != Call::Convert);
     let input = end.input(call).within(bytes).with_state(session, &marks, &needed);
     let input = if call == Call::Open {
         input
@@ -69,11 +69,12 @@ fn lawful(case: &mut Case<'_, '_>, call: Call) -> Check<Draft> {
 }
 
 /// Session, marks and needed bytes for a call.
-fn state(rng: &mut Rng, call: Call, count: usize) -> (Session, Vec<u8>, Vec<u8>) {
+fn state(rng: &mut Rng, call: Call, table: &OwnedTable) -> (Session, Vec<u8>, Vec<u8>) {
+    let count = table.count();
     match call {
-        Call::Open => (NEW_SESSION, rng.bytes(count), rng.bytes(64)),
-        Call::Answer => (NEW_SESSION, Vec::new(), Vec::new()),
-        Call::Take => {
+        Call::Open => (NO_SESSION, rng.bytes(count), rng.bytes(64)),
+        Call::Answer => (NO_SESSION, Vec::new(), Vec::new()),
+        Call::Take | Call::Convert => {
             let mut marks: Vec<u8> = (0..count).map(|_| rng.below(2) as u8).collect();
             marks[..2].copy_from_slice(&[1, 0]);
             let marked = marks.iter().filter(|&&mark| mark == 1).count();
@@ -83,7 +84,9 @@ fn state(rng: &mut Rng, call: Call, count: usize) -> (Session, Vec<u8>, Vec<u8>)
             let session = Session {
                 marked,
                 needed,
-                done: false,
+                // A conversion takes it as it is.
+                done: call == Call::Convert && rng.chance(50),
+                ..new_session(table.lent())
             };
             (session, marks, ids.concat())
         }

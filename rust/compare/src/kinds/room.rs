@@ -4,7 +4,7 @@ use crate::calls::Call;
 use crate::compare::Check;
 use crate::exchange::{Ends, Exchange};
 use crate::generate::{lawful_limit, two_cuts, TwoTables, RELATIONS, SHAPES};
-use crate::input::{Input, NEW_SESSION};
+use crate::input::Input;
 use std::ops::RangeInclusive;
 
 pub fn cases(long: bool) -> u64 {
@@ -23,7 +23,7 @@ pub fn run(case: &mut Case<'_, '_>) -> Check {
     let ends = Ends { tables, cuts };
     let marks = case.rng.bytes(ends.opener().table.count());
     let opening = ends.opener().input(Call::Open).within(lawful_limit(&mut case.rng));
-    each_out_size(case, &opening.with_state(NEW_SESSION, &marks, &[]))?;
+    each_out_size(case, &opening.opened(&marks, &[]))?;
     let mut exchange = Exchange::open(case, &ends)?;
     while !exchange.session.done {
         let last = exchange.last_query();

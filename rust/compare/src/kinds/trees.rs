@@ -5,7 +5,8 @@ use crate::calls::{GivenItem, TreeCall};
 use crate::compare::{same_bytes, Check};
 use crate::faults::with_first;
 use crate::generate::{id_from, items, whole_ids, Id, Item, OwnedTable, LAST_TIME, SHAPES};
-use crate::tree::{appended, bytes_of, places_of, places_over, Sum, TreeInput};
+use crate::label::Sum;
+use crate::tree::{appended, bytes_of, places_of, places_over, TreeInput};
 use crate::tree_faults::{tree_faults_of, TreeDraft};
 use recon::{Label, Table, LABEL_BYTES};
 

@@ -6,7 +6,6 @@ use crate::compare::{same_bytes, Check};
 use crate::exchange::End;
 use crate::faults::{faults_of, AnyFault, Draft, Fault};
 use crate::generate::{from_text, id_from, lawful_limit, OwnedTable};
-use crate::input::NEW_SESSION;
 use recon::Cut;
 
 /// The 256 first bytes, and the empty message.
@@ -48,7 +47,7 @@ fn each_room(case: &mut Case<'_, '_>, call: Call, message: &[u8]) -> Check {
         let end = End { table: &table, cut };
         let bytes = lawful_limit(&mut case.rng);
         let lawful = end.input(call).within(bytes).with_message(message).with_out(&out);
-        let draft = Draft::of(&lawful.with_state(NEW_SESSION, &[0, 0, 0], &[]));
+        let draft = Draft::of(&lawful.opened(&[0, 0, 0], &[]));
         judged(case, &draft, number(call, message, room))?;
         for fault in faults_of(call)
             .iter()

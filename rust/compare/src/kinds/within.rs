@@ -5,7 +5,7 @@ use crate::calls::Call;
 use crate::compare::Check;
 use crate::exchange::{with_room, End, Ends, Exchange};
 use crate::generate::{long_message, two_cuts, OwnedTable, Relation, TwoTables, RELATIONS, SHAPES};
-use crate::input::{Input, NEW_SESSION};
+use crate::input::Input;
 use crate::rng::Rng;
 use crate::short::steps;
 use recon::{Cut, MAX_LIMIT, MIN_BYTE_LIMIT};
@@ -41,7 +41,7 @@ fn lists(case: &mut Case<'_, '_>) -> Check {
         cut: Cut { parts, limit },
     };
     let marks = case.rng.bytes(table.count());
-    each_limit(case, &end.input(Call::Open).with_state(NEW_SESSION, &marks, &[]))?;
+    each_limit(case, &end.input(Call::Open).opened(&marks, &[]))?;
     each_limit(case, &end.input(Call::Answer).with_message(&[0x61, 0, 0, 2, 0]))
 }
 
@@ -62,7 +62,7 @@ fn replies(case: &mut Case<'_, '_>) -> Check {
     let end = End { table: &table, cut };
     let marks = vec![0; table.count()];
     let input = end.input(Call::Take).with_message(&reply);
-    each_limit(case, &input.with_state(NEW_SESSION, &marks, &[]))
+    each_limit(case, &input.opened(&marks, &[]))
 }
 
 /// The same as queries and as replies, with some bytes changed.
@@ -83,7 +83,7 @@ fn damaged(case: &mut Case<'_, '_>) -> Check {
         for call in [Call::Answer, Call::Take] {
             let limit = case.rng.between(MIN_BYTE_LIMIT, 2 * MIN_BYTE_LIMIT);
             let input = end.input(call).within(Some(limit)).with_message(&bytes);
-            let input = input.with_state(NEW_SESSION, &marks, &needed).with_out(&out);
+            let input = input.opened(&marks, &needed).with_out(&out);
             let after = case.comparer.call(&input)?;
             if after.outcome.is_ok() {
                 case.check_short(&input, after.message())?;

@@ -60,6 +60,19 @@ pub struct Counts {
     pub carried_rows: u64,
     /// Late or repeated replies to such queries that the library took: made by the former rule, and by the library.
     pub former_late: [u64; 2],
+    /// Takes with a table of another label than the session's, and those of them whose session was done.
+    pub other_table: u64,
+    pub other_table_done: u64,
+    /// Takes with a changed table that has the label of the session.
+    pub same_label: u64,
+    /// Takes whose marks did not fit the changed table.
+    pub unfit: u64,
+    /// Conversions that gave a session back; those of them whose session was done, and those after commits.
+    pub given_back: u64,
+    pub given_back_done: u64,
+    pub given_back_later: u64,
+    /// Sessions that sent and reported the same with conversions as without.
+    pub converted: u64,
     /// Commits after sessions, as long as ids were needed.
     pub commits: u64,
     /// Tables that became the union of both by these.
@@ -86,6 +99,14 @@ impl Counts {
         self.short += other.short;
         self.short_lists += other.short_lists;
         self.short_sessions += other.short_sessions;
+        self.other_table += other.other_table;
+        self.other_table_done += other.other_table_done;
+        self.same_label += other.same_label;
+        self.unfit += other.unfit;
+        self.given_back += other.given_back;
+        self.given_back_done += other.given_back_done;
+        self.given_back_later += other.given_back_later;
+        self.converted += other.converted;
         self.commits += other.commits;
         self.unions += other.unions;
         add_tally(&mut self.numbers, &other.numbers);
@@ -323,6 +344,13 @@ fn check_lent(input: &Input<'_>, after: &After, unchanged: bool) -> Check {
 /// A refused call leaves all as it was. A take is refused by 18 just where the labels differ, unless by an earlier check.
 fn check_refused(input: &Input<'_>, after: &After, refused: Refused) -> Check {
     check_unchanged(input, after, &format!("refused by {}", refused.number))?;
+    let beside = input.call.beside_refusal(input.session);
+    if refused.session != beside {
+        return Err(format!(
+            "{:?} stands beside the refusal, and not {:?}",
+            refused.session, beside
+        ));
+    }
     let is_passed = matches!(refused.number, 5..=12);
     if input.call != Call::Take || !is_passed && refused.number != 18 {
         return Ok(());

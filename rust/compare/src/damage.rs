@@ -96,8 +96,8 @@ pub enum Damage {
     Committed(fn(&mut FoldMade<'_, '_>, &mut Committed)),
     /// Spoils what an inquiry or a commit did, refused or not.
     Fold(fn(&mut FoldMade<'_, '_>)),
-    /// Reads a byte before or behind the out buffer, the tree of a build or an append, or the needed buffer of an
-    /// inquiry or a commit.
+    /// Reads a byte before or behind the out buffer, the marks of a conversion, the tree of a build or an append, or the
+    /// needed buffer of an inquiry or a commit.
     Beyond(Side),
 }
 
@@ -149,6 +149,7 @@ impl Calls for Damaged {
             (Damage::Refused(spoil), Err(refused)) => spoil(&mut made, refused),
             (Damage::Renumber(from, to), Err(refused)) if refused.number == from => refused.number = to,
             (Damage::Any(spoil), outcome) => spoil(&mut made, outcome),
+            (Damage::Beyond(side), _) if call == Call::Convert => touch_beyond(made.lent.marks, side),
             (Damage::Beyond(side), _) => touch_beyond(made.lent.out, side),
             _ => {}
         }

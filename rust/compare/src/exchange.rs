@@ -233,6 +233,27 @@ impl<'a> Exchange<'a> {
         self.queries.len() - 1
     }
 
+    /// Takes answers until the session is done, at times late or repeated ones. Before each take and at the end something
+    /// else is done.
+    pub fn finish_late(
+        &mut self,
+        case: &mut Case<'_, '_>,
+        between: &mut dyn FnMut(&mut Case<'_, '_>, &mut Exchange<'_>) -> Check,
+    ) -> Check {
+        between(case, self)?;
+        while !self.session.done {
+            let is_late = self.sent() < 20 && case.rng.chance(15);
+            let query = if is_late {
+                case.rng.below(self.sent())
+            } else {
+                self.last_query()
+            };
+            self.take(case, query)?;
+            between(case, self)?;
+        }
+        Ok(())
+    }
+
     /// Takes the answer to the query last sent until the session is done. That it ends, the check of rows sees to.
     pub fn finish(&mut self, case: &mut Case<'_, '_>) -> Check {
         while !self.session.done {

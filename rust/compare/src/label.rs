@@ -19,6 +19,21 @@ pub fn label_of(table: Table<'_>) -> Label {
     Label { sum, count }
 }
 
+/// The sum of two ids modulo 2^256.
+pub fn plus(id: &Id, by: &Id) -> Id {
+    let mut sum = Sum::default();
+    sum.add(id, 0);
+    sum.add(by, 0);
+    sum.bytes
+}
+
+/// The difference of two ids modulo 2^256.
+pub fn minus(id: &Id, by: &Id) -> Id {
+    let mut one = [0; 32];
+    one[0] = 1;
+    plus(id, &plus(&by.map(|byte| !byte), &one))
+}
+
 /// The session that an opening of a table leaves.
 pub fn new_session(table: Table<'_>) -> Session {
     Session {

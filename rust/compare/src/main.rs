@@ -10,6 +10,7 @@
 //! Exits with 0 if nothing differs, with 1 at the first difference, and with 2 if the arguments are wrong.
 mod calls;
 mod carried_trials;
+mod changes;
 mod compare;
 mod damage;
 mod demand;
@@ -22,8 +23,10 @@ mod fold_trials;
 mod generate;
 mod guard;
 mod input;
+mod kept;
 mod kinds;
 mod label;
+mod label_trials;
 mod raw;
 mod rng;
 mod run;

@@ -165,6 +165,16 @@ fn print_totals(totals: &Counts) {
         by_library
     );
     println!(
+        "{} takes with a table of another label, {} of them of sessions that were done, and {} with a changed table of the \
+         same label; {} whose marks did not fit the changed table",
+        totals.other_table, totals.other_table_done, totals.same_label, totals.unfit
+    );
+    println!(
+        "{} sessions given back by their conversion, {} of them done, {} after commits; {} sessions the same with \
+         conversions as without",
+        totals.given_back, totals.given_back_done, totals.given_back_later, totals.converted
+    );
+    println!(
         "{} runs of trees with the label summed item by item; {} appends with the tree built afresh",
         totals.summed, totals.rebuilt
     );
@@ -196,6 +206,14 @@ fn all_came_up(totals: &Counts) -> bool {
         totals.carried_rows,
         totals.former_late[0],
         totals.former_late[1],
+        totals.other_table,
+        totals.other_table_done,
+        totals.same_label,
+        totals.unfit,
+        totals.given_back,
+        totals.given_back_done,
+        totals.given_back_later,
+        totals.converted,
         totals.commits,
         totals.unions,
     ];

@@ -1,17 +1,22 @@
 //! A session to its end, and then the other end's items in several commits. That the table becomes the union of both is
 //! checked on sets, without either implementation.
+use crate::calls::Call;
 use crate::compare::Check;
-use crate::exchange::{Ends, Exchange};
+use crate::exchange::{End, Ends, Exchange};
 use crate::faults::AnyFault;
 use crate::fold::items_of;
 use crate::fold_faults::{fold_faults, FoldDraft};
 use crate::generate::{two_cuts, whole_ids, Id, Item, OwnedTable, Relation, TwoTables, RELATIONS, SHAPES};
+use crate::kept::gives_back;
 use crate::kinds::{expect_number, Case};
-use recon::{Session, MIN_BYTE_LIMIT};
+use recon::{Session, Table, MIN_BYTE_LIMIT};
 use std::collections::BTreeSet;
 
 /// What the opener holds after its session, and the items that the other end has yet to hand over.
-struct Story {
+struct Story<'a> {
+    /// The table of the opening, and its marks.
+    opener: End<'a>,
+    marks: Vec<u8>,
     times: Vec<u64>,
     ids: Vec<u8>,
     items: usize,
@@ -42,8 +47,11 @@ fn story(case: &mut Case<'_, '_>, most: usize, limits: [Option<usize>; 2]) -> Ch
     let cuts = two_cuts(rng, 50);
     let ends = Ends { tables, cuts };
     let union: BTreeSet<Item> = ends.tables.iter().flat_map(OwnedTable::items).collect();
-    let (session, list, hidden) = finished(case, &ends, limits)?;
-    let mut story = Story::new(case, &ends, session, list, union.len());
+    let before = case.comparer.counts.excused;
+    let mut exchange = Exchange::open_within(case, &ends, limits)?;
+    exchange.finish_late(case, &mut |_, _| Ok(()))?;
+    let hidden = case.comparer.counts.excused > before;
+    let mut story = Story::new(case, exchange, union.len());
     while !story.left.is_empty() {
         story.step(case)?;
     }
@@ -56,27 +64,10 @@ fn story(case: &mut Case<'_, '_>, most: usize, limits: [Option<usize>; 2]) -> Ch
     Ok(())
 }
 
-/// Runs a session to its end, at times with late answers: what it leaves, and whether colliding ranges hide something.
-fn finished(case: &mut Case<'_, '_>, ends: &Ends, limits: [Option<usize>; 2]) -> Check<(Session, Vec<u8>, bool)> {
-    let before = case.comparer.counts.excused;
-    let mut exchange = Exchange::open_within(case, ends, limits)?;
-    while !exchange.session.done {
-        let is_late = exchange.sent() < 20 && case.rng.chance(15);
-        let query = if is_late {
-            case.rng.below(exchange.sent())
-        } else {
-            exchange.last_query()
-        };
-        exchange.take(case, query)?;
-    }
-    let hidden = case.comparer.counts.excused > before;
-    Ok((exchange.session, exchange.list, hidden))
-}
-
-impl Story {
-    /// The opener's table in buffers that hold so many items, exactly or with more room.
-    fn new(case: &mut Case<'_, '_>, ends: &Ends, session: Session, mut needed: Vec<u8>, most: usize) -> Story {
-        let [ours, theirs] = &ends.tables;
+impl<'a> Story<'a> {
+    /// The opener's table after its session, in buffers that hold so many items, exactly or with more room.
+    fn new(case: &mut Case<'_, '_>, exchange: Exchange<'a>, most: usize) -> Story<'a> {
+        let (ours, theirs, mut needed) = (exchange.opener.table, exchange.responder.table, exchange.list);
         let (mut times, mut ids) = (ours.times.clone(), ours.ids.clone());
         let (own, listed): (BTreeSet<Item>, BTreeSet<Id>) =
             (ours.items().into_iter().collect(), whole_ids(&needed).collect());
@@ -89,10 +80,12 @@ impl Story {
         let behind = 32 * case.rng.pick(&[0, 0, 2]);
         needed.extend(case.rng.bytes(behind));
         Story {
+            opener: exchange.opener,
+            marks: exchange.marks,
             times,
             ids,
             items: ours.count(),
-            session,
+            session: exchange.session,
             needed,
             left,
         }
@@ -121,7 +114,29 @@ impl Story {
         (self.items, self.session) = (committed.items, committed.session);
         (self.times, self.ids, self.needed) = (after.times, after.ids, after.needed);
         case.comparer.counts.commits += 1;
-        Ok(())
+        self.check_label(case)
+    }
+
+    /// The session keeps the label of its opening: with the table of then it is given back by its conversion and done for
+    /// a take. With the table as it is now, unless that is the same, the marks do not fit; and if they did, it is another
+    /// table.
+    fn check_label(&self, case: &mut Case<'_, '_>) -> Check {
+        let take = self.opener.input(Call::Take);
+        let then = take.with_state(self.session, &self.marks, &self.needed);
+        gives_back(case, &then)?;
+        case.comparer.counts.given_back_later += 1;
+        case.expect(&then, 5)?;
+        let now = then.with_table(Table {
+            times: &self.times[..self.items],
+            ids: &self.ids[..32 * self.items],
+        });
+        let more = self.items - self.marks.len();
+        let marks = [&self.marks[..], &vec![0; more]].concat();
+        let fitting = now.with_state(self.session, &marks, &self.needed);
+        let numbers = if more > 0 { (4, 18) } else { (5, 5) };
+        case.expect(&now, numbers.0)?;
+        case.expect(&fitting, numbers.1)?;
+        case.expect(&fitting.of(Call::Convert), 0).map(|_| ())
     }
 
     /// A commit with up to two faults. One that is not refused after all is no commit of the list.

@@ -4,6 +4,7 @@ use crate::carried_trials;
 use crate::damage::{Damage, Made};
 use crate::fold_trials;
 use crate::guard::Side;
+use crate::label_trials;
 use crate::tree_trials;
 use crate::within_trials;
 use recon::{Cut, Sent, Table, MAX_ITEMS};
@@ -65,6 +66,7 @@ pub fn one_sided() -> Vec<Trial> {
         tree_trials::one_sided(),
         within_trials::one_sided(),
         carried_trials::one_sided(),
+        label_trials::one_sided(),
         fold_trials::one_sided(),
     ];
     lists.into_iter().flatten().chain(renumbered).collect()
@@ -326,6 +328,7 @@ pub fn both_sided() -> Vec<Trial> {
     trials.extend(tree_trials::both_sided());
     trials.extend(within_trials::both_sided());
     trials.extend(carried_trials::both_sided());
+    trials.extend(label_trials::both_sided());
     trials.extend(fold_trials::both_sided());
     trials.extend([
         trial("examples", "differ at 0", "open writes another version", open(|made, _| flip(made.lent.out, 0))),
@@ -422,11 +425,13 @@ const fn beyond(name: &'static str, kind: &'static str, side: Side) -> Beyond {
     Beyond { name, kind, side }
 }
 
-pub const BEYOND: [Beyond; 6] = [
+pub const BEYOND: [Beyond; 8] = [
     beyond("behind the out buffer", "tables", Side::End),
     beyond("before the out buffer", "tables", Side::Start),
     beyond("behind the tree", "trees", Side::End),
     beyond("before the tree", "trees", Side::Start),
     beyond("behind the needed buffer", "fold", Side::End),
     beyond("before the needed buffer", "fold", Side::Start),
+    beyond("behind the marks", "labelled", Side::End),
+    beyond("before the marks", "labelled", Side::Start),
 ];

@@ -5,6 +5,7 @@ mod digests;
 mod examples;
 mod fingerprints;
 mod fold;
+mod labelled;
 mod limits;
 mod lists;
 mod merges;
@@ -153,7 +154,7 @@ macro_rules! kind {
     };
 }
 
-pub static KINDS: [Kind; 17] = [
+pub static KINDS: [Kind; 18] = [
     kind!(examples),
     kind!(refusals),
     kind!(versions),
@@ -163,6 +164,7 @@ pub static KINDS: [Kind; 17] = [
     kind!(room),
     kind!(within),
     kind!(carried),
+    kind!(labelled),
     kind!(fingerprints),
     kind!(limits),
     kind!(lists),

@@ -1,4 +1,4 @@
-//! Each fault of each call, and each two faults of a call at once, in both orders.
+//! Each fault of each call that writes a message, and each two faults of a call at once, in both orders.
 use super::Case;
 use crate::calls::Call;
 use crate::compare::Check;
@@ -12,7 +12,7 @@ use reference::{Bound, Payload, Range};
 
 /// How many faults the calls have together. A case is a first fault, alone and with each second one.
 fn first_faults() -> usize {
-    Call::ALL.iter().map(|&call| faults_of(call).len()).sum()
+    Call::WRITING.iter().map(|&call| faults_of(call).len()).sum()
 }
 
 /// Each first fault with several lawful inputs.
@@ -21,21 +21,25 @@ pub fn cases(long: bool) -> u64 {
     inputs * first_faults() as u64
 }
 
-/// A lawful input, and that input with a first fault and then each other.
 pub fn run(case: &mut Case<'_, '_>) -> Check {
     let mut index = case.index as usize % first_faults();
-    for call in Call::ALL {
-        let faults = faults_of(call);
-        if index < faults.len() {
-            let lawful = lawful(case, call)?;
-            case.expect(&lawful.input(), 0)?;
-            return with_first(&lawful, &faults, index, |draft| {
-                Ok(case.comparer.call(&draft.input())?.number())
-            });
+    for call in Call::WRITING {
+        let count = faults_of(call).len();
+        if index < count {
+            return with_each(case, call, index);
         }
-        index -= faults.len();
+        index -= count;
     }
     Err("there is no such case".to_string())
+}
+
+/// A lawful input of a call, and that input with the first fault of this number and then each other.
+pub fn with_each(case: &mut Case<'_, '_>, call: Call, first: usize) -> Check {
+    let lawful = lawful(case, call)?;
+    case.expect(&lawful.input(), 0)?;
+    with_first(&lawful, &faults_of(call), first, |draft| {
+        Ok(case.comparer.call(&draft.input())?.number())
+    })
 }
 
 /// A lawful input with exact room that every check looks at: items, marks of both kinds, a list with ids to come.

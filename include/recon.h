@@ -13,7 +13,8 @@
    What a caller owes:
    - a pointer points to as many elements as its length says; where the length is 0 it is not looked at, and may be null;
    - none of the bytes that a call may write overlap any other that it is handed;
-   - there is stack: a take keeps less than 512 KiB on it, a call that folds in less than 200 KiB, a call on a tree less than 16 KiB. */
+   - there is stack: a take keeps less than 512 KiB on it, a call that folds in less than 200 KiB, a conversion and a call on a tree
+     less than 16 KiB. */
 #ifndef RECON_H
 #define RECON_H
 

@@ -28,104 +28,6 @@ static int begins(const uint8_t *buffer, size_t size, const uint8_t *given, size
     return 1;
 }
 
-static int is_session(recon_session s, size_t marked, size_t needed, bool done) {
-    return s.marked == marked && s.needed == needed && s.done == done;
-}
-
-static const uint64_t times[3] = {5, 5, 7};
-static const uint8_t ids[96] = {[0] = 1, [32] = 2, [64] = 3};
-static const uint8_t nothing[1] = {0};
-
-/* E3: two empty tables. */
-static void empty_tables(void) {
-    const uint8_t message[5] = {0x61, 0, 0, 2, 0};
-    uint8_t marks[1] = {OLD}, needed[32], out[8];
-    memset(needed, OLD, sizeof needed);
-    memset(out, OLD, sizeof out);
-    recon_session_answer opened = recon_open(times, 0, ids, 0, 2, 2, marks, 0, needed, 32, out, 8);
-    expect("E3 opens with five bytes", opened.refusal == RECON_OK && opened.length == 5 && begins(out, 8, message, 5));
-    expect("E3 leaves a session that is open", is_session(opened.session, 0, 0, false));
-    memset(out, OLD, sizeof out);
-    recon_answer_t answer = recon_answer(times, 0, ids, 0, 2, 2, message, 5, out, 8);
-    expect("E3 is answered with the same bytes", answer.refusal == RECON_OK && answer.length == 5 && begins(out, 8, message, 5));
-    memset(out, OLD, sizeof out);
-    recon_session_answer taken = recon_take(times, 0, ids, 0, 2, 2, message, 5, opened.session, marks, 0, needed, 32, out, 8);
-    expect("E3 is done", taken.refusal == RECON_OK && taken.length == 0 && is_session(taken.session, 0, 0, true));
-    expect("E3 reports nothing", begins(out, 8, nothing, 0) && begins(needed, 32, nothing, 0) && marks[0] == OLD);
-}
-
-/* E4: two fingerprint ranges; the same with one byte too little. */
-static void two_ranges(void) {
-    const uint8_t query[40] = {0x61, 0x06, 0x01, 0x02, 0x01, 0x2e, 0x25, 0x50, 0x99, 0xd6, 0xd6, 0xbe, 0xe3, 0x07,
-                               0xc8, 0xe7, 0x07, 0x5a, 0xcc, 0x78, 0xf9, 0x00, 0x00, 0x01, 0xd2, 0x7c, 0x48, 0x77,
-                               0x95, 0x63, 0xae, 0x9b, 0x8f, 0x7b, 0xfc, 0x1b, 0xa0, 0x54, 0x62, 0xc8};
-    uint8_t marks[4], needed[64], out[41];
-    const uint8_t zeros[3] = {0};
-    memset(marks, OLD, sizeof marks);
-    memset(needed, OLD, sizeof needed);
-    memset(out, OLD, sizeof out);
-    recon_session_answer refused = recon_open(times, 3, ids, 96, 2, 2, marks, 3, needed, 64, out, 39);
-    expect("E4 has no room in 39 bytes", refused.refusal == RECON_NO_ROOM && refused.length == 0);
-    expect("a refused opening is not done", is_session(refused.session, 0, 0, false));
-    expect("a refused opening changes nothing", begins(marks, 4, nothing, 0) && begins(needed, 64, nothing, 0) && begins(out, 41, nothing, 0));
-    recon_session_answer opened = recon_open(times, 3, ids, 96, 2, 2, marks, 3, needed, 64, out, 40);
-    expect("E4 opens with 40 bytes", opened.refusal == RECON_OK && opened.length == 40 && begins(out, 41, query, 40));
-    expect("E4 sets the marks to 0", begins(marks, 4, zeros, 3) && begins(needed, 64, nothing, 0));
-}
-
-/* E4's query by the former rule, which cut its items into the first two and the third: it is answered, and the answer ends the session that it
-   opened. The other end lacks the second item. */
-static void former_rule(void) {
-    const uint8_t query[39] = {0x61, 0x08, 0x00, 0x01, 0x05, 0x5e, 0xc4, 0x05, 0xfe, 0xbf, 0xad, 0x80, 0x4c, 0x1c, 0x56, 0x38, 0xd7, 0x36, 0x93, 0x61,
-                               0x00, 0x00, 0x01, 0x7e, 0x83, 0x9d, 0x7a, 0xa6, 0xd0, 0x79, 0xf6, 0x8e, 0x25, 0x89, 0xf6, 0xc6, 0x68, 0xa0, 0x0f};
-    const uint64_t other_times[2] = {5, 7};
-    const uint8_t other_ids[64] = {[0] = 1, [32] = 3}, same[1] = {0x61}, listed[37] = {0x61, 8, 0, 2, 1, 1}, second[3] = {0, 1, 0};
-    uint8_t marks[4] = {0, 0, 0, OLD}, needed[1] = {OLD}, out[40], none[1] = {OLD};
-    memset(out, OLD, sizeof out);
-    recon_answer_t equal = recon_answer(times, 3, ids, 96, 2, 2, query, 39, out, 40);
-    expect("a query by the former rule finds equal items", equal.refusal == RECON_OK && equal.length == 1 && begins(out, 40, same, 1));
-    recon_answer_t answer = recon_answer(other_times, 2, other_ids, 64, 2, 2, query, 39, out, 40);
-    expect("a query by the former rule is answered", answer.refusal == RECON_OK && answer.length == 37 && begins(out, 40, listed, 37));
-    const recon_session session = {0, 0, false};
-    recon_session_answer taken = recon_take(times, 3, ids, 96, 2, 2, out, 37, session, marks, 3, needed, 0, none, 0);
-    expect("a session of the former rule is done", taken.refusal == RECON_OK && taken.length == 0 && is_session(taken.session, 1, 0, true));
-    expect("a session of the former rule reports", begins(marks, 4, second, 3) && needed[0] == OLD && none[0] == OLD);
-}
-
-/* E11, and then a done session; a reply with an id that is lacking. */
-static void reports(void) {
-    const uint8_t reply[5] = {0x61, 0, 0, 2, 0};
-    uint8_t listed[69] = {0x61, 0, 0, 2, 2, [5] = 9, [37] = 1};
-    uint8_t marks[2] = {0, OLD}, needed[64];
-    const uint8_t one[1] = {1}, nine[32] = {9}, marked[2] = {1, OLD};
-    memset(needed, OLD, sizeof needed);
-    recon_session session = {0, 0, false};
-    uint8_t none[1] = {OLD};
-    recon_session_answer taken = recon_take(times, 1, ids, 32, 2, 2, reply, 5, session, marks, 1, needed, 64, none, 0);
-    expect("E11 marks its item and is done", taken.refusal == RECON_OK && taken.length == 0 && is_session(taken.session, 1, 0, true) && begins(marks, 2, one, 1));
-    recon_session_answer again = recon_take(times, 1, ids, 32, 2, 2, reply, 5, taken.session, marks, 1, needed, 64, none, 0);
-    expect("a session that is done takes nothing", again.refusal == RECON_SESSION_DONE && is_session(again.session, 1, 0, true));
-    session.marked = 1;
-    recon_session_answer more = recon_take(times, 1, ids, 32, 2, 2, listed, 69, session, marks, 1, needed, 64, none, 0);
-    expect("an id that is lacking joins", more.refusal == RECON_OK && is_session(more.session, 1, 1, true) && begins(needed, 64, nine, 32));
-    expect("marks remain", memcmp(marks, marked, 2) == 0);
-    recon_session_answer full = recon_take(times, 1, ids, 32, 2, 2, listed, 69, session, marks, 1, needed, 0, none, 0);
-    expect("no room for it", full.refusal == RECON_NEEDED_FULL && is_session(full.session, 1, 0, false));
-}
-
-/* The fingerprint of E4's first two items, and what 9 refuses. */
-static void fingerprints(void) {
-    const uint8_t first[16] = {0x05, 0x5e, 0xc4, 0x05, 0xfe, 0xbf, 0xad, 0x80, 0x4c, 0x1c, 0x56, 0x38, 0xd7, 0x36, 0x93, 0x61};
-    const uint8_t prefix[33] = {0};
-    uint8_t out[17];
-    memset(out, OLD, sizeof out);
-    expect("a prefix at infinity", recon_fingerprint(times, 3, ids, 96, false, 0, nothing, 0, true, 0, prefix, 1, out) == RECON_BAD_BOUND);
-    expect("a prefix of 33 bytes", recon_fingerprint(times, 3, ids, 96, false, 0, prefix, 33, true, 0, nothing, 0, out) == RECON_BAD_BOUND);
-    expect("a table before its bounds", recon_fingerprint(times, 3, ids, 95, false, 0, prefix, 33, true, 0, nothing, 0, out) == RECON_TABLE_SIZE);
-    expect("a refused fingerprint changes nothing", begins(out, 17, nothing, 0));
-    expect("the items below time 7", recon_fingerprint(times, 3, ids, 96, false, 0, nothing, 0, false, 7, nothing, 0, out) == RECON_OK && begins(out, 17, first, 16));
-}
-
 /* The label of n ids, summed byte by byte from the first. */
 static recon_label summed(const uint8_t *i, size_t n) {
     recon_label label = {{0, 0, 0, 0}, n};
@@ -144,6 +46,264 @@ static recon_label summed(const uint8_t *i, size_t n) {
 }
 
 static int is_label(recon_label a, recon_label b) { return memcmp(a.sum, b.sum, sizeof a.sum) == 0 && a.count == b.count; }
+
+static int is_session(recon_session s, size_t marked, size_t needed, bool done, recon_label label) {
+    return s.marked == marked && s.needed == needed && s.done == done && is_label(s.label, label);
+}
+
+static int same_session(recon_session a, recon_session b) { return is_session(a, b.marked, b.needed, b.done, b.label); }
+
+/* What an opening leaves that has n ids. */
+static recon_session begun(const uint8_t *i, size_t n) { return (recon_session){0, 0, false, summed(i, n)}; }
+
+/* What stands beside a refused opening and a refused conversion. */
+static const recon_session no_session = {0, 0, false, {{0, 0, 0, 0}, 0}};
+
+static const uint64_t times[3] = {5, 5, 7};
+static const uint8_t ids[96] = {[0] = 1, [32] = 2, [64] = 3};
+static const uint8_t nothing[1] = {0};
+
+/* E3: two empty tables. */
+static void empty_tables(void) {
+    const uint8_t message[5] = {0x61, 0, 0, 2, 0};
+    uint8_t marks[1] = {OLD}, needed[32], out[8];
+    memset(needed, OLD, sizeof needed);
+    memset(out, OLD, sizeof out);
+    recon_session_answer opened = recon_open(times, 0, ids, 0, 2, 2, marks, 0, needed, 32, out, 8);
+    expect("E3 opens with five bytes", opened.refusal == RECON_OK && opened.length == 5 && begins(out, 8, message, 5));
+    expect("E3 leaves a session that is open", same_session(opened.session, no_session));
+    memset(out, OLD, sizeof out);
+    recon_answer_t answer = recon_answer(times, 0, ids, 0, 2, 2, message, 5, out, 8);
+    expect("E3 is answered with the same bytes", answer.refusal == RECON_OK && answer.length == 5 && begins(out, 8, message, 5));
+    memset(out, OLD, sizeof out);
+    recon_session_answer taken = recon_take(times, 0, ids, 0, 2, 2, message, 5, opened.session, marks, 0, needed, 32, out, 8);
+    expect("E3 is done", taken.refusal == RECON_OK && taken.length == 0 && is_session(taken.session, 0, 0, true, no_session.label));
+    expect("E3 reports nothing", begins(out, 8, nothing, 0) && begins(needed, 32, nothing, 0) && marks[0] == OLD);
+}
+
+/* E4: two fingerprint ranges; the same with one byte too little. */
+static void two_ranges(void) {
+    const uint8_t query[40] = {0x61, 0x06, 0x01, 0x02, 0x01, 0x2e, 0x25, 0x50, 0x99, 0xd6, 0xd6, 0xbe, 0xe3, 0x07,
+                               0xc8, 0xe7, 0x07, 0x5a, 0xcc, 0x78, 0xf9, 0x00, 0x00, 0x01, 0xd2, 0x7c, 0x48, 0x77,
+                               0x95, 0x63, 0xae, 0x9b, 0x8f, 0x7b, 0xfc, 0x1b, 0xa0, 0x54, 0x62, 0xc8};
+    uint8_t marks[4], needed[64], out[41];
+    const uint8_t zeros[3] = {0};
+    memset(marks, OLD, sizeof marks);
+    memset(needed, OLD, sizeof needed);
+    memset(out, OLD, sizeof out);
+    recon_session_answer refused = recon_open(times, 3, ids, 96, 2, 2, marks, 3, needed, 64, out, 39);
+    expect("E4 has no room in 39 bytes", refused.refusal == RECON_NO_ROOM && refused.length == 0);
+    expect("a refused opening is not done", same_session(refused.session, no_session));
+    expect("a refused opening changes nothing", begins(marks, 4, nothing, 0) && begins(needed, 64, nothing, 0) && begins(out, 41, nothing, 0));
+    recon_session_answer opened = recon_open(times, 3, ids, 96, 2, 2, marks, 3, needed, 64, out, 40);
+    expect("E4 opens with 40 bytes", opened.refusal == RECON_OK && opened.length == 40 && begins(out, 41, query, 40));
+    expect("E4 has the sum 6 and the count 3", is_session(opened.session, 0, 0, false, (recon_label){{6, 0, 0, 0}, 3}));
+    expect("E4 sets the marks to 0", begins(marks, 4, zeros, 3) && begins(needed, 64, nothing, 0));
+}
+
+/* E4's query by the former rule, which cut its items into the first two and the third: it is answered, and the answer ends the session that it
+   opened. The other end lacks the second item. */
+static void former_rule(void) {
+    const uint8_t query[39] = {0x61, 0x08, 0x00, 0x01, 0x05, 0x5e, 0xc4, 0x05, 0xfe, 0xbf, 0xad, 0x80, 0x4c, 0x1c, 0x56, 0x38, 0xd7, 0x36, 0x93, 0x61,
+                               0x00, 0x00, 0x01, 0x7e, 0x83, 0x9d, 0x7a, 0xa6, 0xd0, 0x79, 0xf6, 0x8e, 0x25, 0x89, 0xf6, 0xc6, 0x68, 0xa0, 0x0f};
+    const uint64_t other_times[2] = {5, 7};
+    const uint8_t other_ids[64] = {[0] = 1, [32] = 3}, same[1] = {0x61}, listed[37] = {0x61, 8, 0, 2, 1, 1}, second[3] = {0, 1, 0};
+    uint8_t marks[4] = {0, 0, 0, OLD}, needed[1] = {OLD}, out[40], none[1] = {OLD};
+    memset(out, OLD, sizeof out);
+    recon_answer_t equal = recon_answer(times, 3, ids, 96, 2, 2, query, 39, out, 40);
+    expect("a query by the former rule finds equal items", equal.refusal == RECON_OK && equal.length == 1 && begins(out, 40, same, 1));
+    recon_answer_t answer = recon_answer(other_times, 2, other_ids, 64, 2, 2, query, 39, out, 40);
+    expect("a query by the former rule is answered", answer.refusal == RECON_OK && answer.length == 37 && begins(out, 40, listed, 37));
+    const recon_session session = begun(ids, 3);
+    recon_session_answer taken = recon_take(times, 3, ids, 96, 2, 2, out, 37, session, marks, 3, needed, 0, none, 0);
+    expect("a session of the former rule is done", taken.refusal == RECON_OK && taken.length == 0 && is_session(taken.session, 1, 0, true, session.label));
+    expect("a session of the former rule reports", begins(marks, 4, second, 3) && needed[0] == OLD && none[0] == OLD);
+}
+
+/* E11, and then a done session; a reply with an id that is lacking. */
+static void reports(void) {
+    const uint8_t reply[5] = {0x61, 0, 0, 2, 0};
+    uint8_t listed[69] = {0x61, 0, 0, 2, 2, [5] = 9, [37] = 1};
+    uint8_t marks[2] = {0, OLD}, needed[64];
+    const uint8_t one[1] = {1}, nine[32] = {9}, marked[2] = {1, OLD};
+    memset(needed, OLD, sizeof needed);
+    recon_session session = begun(ids, 1);
+    const recon_label label = session.label;
+    uint8_t none[1] = {OLD};
+    recon_session_answer taken = recon_take(times, 1, ids, 32, 2, 2, reply, 5, session, marks, 1, needed, 64, none, 0);
+    expect("E11 marks its item and is done", taken.refusal == RECON_OK && taken.length == 0 && is_session(taken.session, 1, 0, true, label) && begins(marks, 2, one, 1));
+    recon_session_answer again = recon_take(times, 1, ids, 32, 2, 2, reply, 5, taken.session, marks, 1, needed, 64, none, 0);
+    expect("a session that is done takes nothing", again.refusal == RECON_SESSION_DONE && is_session(again.session, 1, 0, true, label));
+    session.marked = 1;
+    recon_session_answer more = recon_take(times, 1, ids, 32, 2, 2, listed, 69, session, marks, 1, needed, 64, none, 0);
+    expect("an id that is lacking joins", more.refusal == RECON_OK && is_session(more.session, 1, 1, true, label) && begins(needed, 64, nine, 32));
+    expect("marks remain", memcmp(marks, marked, 2) == 0);
+    recon_session_answer full = recon_take(times, 1, ids, 32, 2, 2, listed, 69, session, marks, 1, needed, 0, none, 0);
+    expect("no room for it", full.refusal == RECON_NEEDED_FULL && is_session(full.session, 1, 0, false, label));
+}
+
+/* Where each field of a session stands. A session without a label has its fields where the other has them. */
+static void layouts(void) {
+    expect("a label", sizeof(recon_label) == 40 && offsetof(recon_label, sum) == 0 && offsetof(recon_label, count) == 32);
+    expect("a session", sizeof(recon_session) == 64 && offsetof(recon_session, marked) == 0 && offsetof(recon_session, needed) == 8 &&
+                            offsetof(recon_session, done) == 16 && offsetof(recon_session, label) == 24);
+    expect("a session without a label", sizeof(recon_unlabelled_session) == 24 && offsetof(recon_unlabelled_session, marked) == 0 &&
+                                            offsetof(recon_unlabelled_session, needed) == 8 && offsetof(recon_unlabelled_session, done) == 16);
+    expect("an answer with a session", sizeof(recon_session_answer) == 80 && offsetof(recon_session_answer, session) == 16);
+    expect("an answer of a commit", sizeof(recon_commit) == 80 && offsetof(recon_commit, session) == 16);
+}
+
+/* All that a take or a conversion is handed: three items, the second marked, and two needed ids in a buffer for three. */
+typedef struct {
+    uint64_t times[4];
+    uint8_t ids[128], marks[4], needed[97];
+    size_t times_len, ids_len, marks_len, needed_len;
+    recon_session session;
+} kept;
+
+static void put_kept(kept *k, bool done) {
+    const uint8_t needed[96] = {[0] = 8, [32] = 9, [64] = 7};
+    memset(k, 0, sizeof *k);
+    memcpy(k->times, times, sizeof times);
+    memcpy(k->ids, ids, sizeof ids);
+    memcpy(k->needed, needed, sizeof needed);
+    k->times[3] = 8;
+    k->ids[96] = 4;
+    k->marks[1] = 1;
+    k->times_len = k->marks_len = 3;
+    k->ids_len = k->needed_len = 96;
+    k->session.marked = 1;
+    k->session.needed = 2;
+    k->session.done = done;
+    k->session.label = summed(ids, 3);
+}
+
+/* A take of a reply that says nothing; it changes no byte, whether it is refused or ends the session. Its number. */
+static uint64_t take_kept(kept *k) {
+    const uint8_t reply[1] = {0x61};
+    static kept before;
+    uint8_t none[1] = {OLD};
+    memcpy(&before, k, sizeof before);
+    recon_session_answer a = recon_take(k->times, k->times_len, k->ids, k->ids_len, 2, 2, reply, 1, k->session, k->marks, k->marks_len, k->needed,
+                                        k->needed_len, none, 0);
+    recon_session session = k->session;
+    session.done |= a.refusal == RECON_OK;
+    expect("a take that says nothing", a.length == 0 && same_session(a.session, session));
+    expect("it changes no byte", memcmp(&before, k, sizeof before) == 0 && none[0] == OLD);
+    return a.refusal;
+}
+
+/* Changes the table, or the label: 18, of sessions that are done too. */
+static void other_table(const char *what, kept *k, uint64_t number) {
+    expect(what, take_kept(k) == number);
+    k->session.done = true;
+    expect(what, take_kept(k) == (number == RECON_OK ? RECON_SESSION_DONE : number));
+}
+
+static void other_tables(void) {
+    static kept k;
+    put_kept(&k, false);
+    other_table("the table of the opening", &k, RECON_OK);
+    for (size_t byte = 0; byte < 32; byte++) {
+        put_kept(&k, false);
+        k.ids[64 + byte] ^= 8;
+        other_table("another byte of an id", &k, RECON_OTHER_TABLE);
+    }
+    put_kept(&k, false);
+    k.times_len = 4;
+    k.ids_len = 128;
+    other_table("an item more", &k, RECON_WRONG_STATE);
+    k.marks_len = 4;
+    k.session.done = false;
+    other_table("an item and a mark more", &k, RECON_OTHER_TABLE);
+    k.ids[96] = 0;
+    k.session.done = false;
+    other_table("an item more whose id is 0", &k, RECON_OTHER_TABLE);
+    put_kept(&k, false);
+    k.times_len = k.marks_len = 2;
+    k.ids_len = 64;
+    other_table("an item and a mark less", &k, RECON_OTHER_TABLE);
+    for (size_t word = 0; word < 4; word++) {
+        put_kept(&k, false);
+        k.session.label.sum[word]++;
+        other_table("another word of the sum", &k, RECON_OTHER_TABLE);
+    }
+    put_kept(&k, false);
+    k.session.label.count--;
+    other_table("another count", &k, RECON_OTHER_TABLE);
+    put_kept(&k, false);
+    k.session.label.count = 0;
+    k.marks[0] = 2;
+    other_table("4 before 18", &k, RECON_WRONG_STATE);
+    put_kept(&k, false);
+    k.times[2] = 9;
+    other_table("another time, and the same label", &k, RECON_OK);
+    put_kept(&k, false);
+    k.ids[0] = 0, k.ids[64] = 4;
+    other_table("other ids with the same sum", &k, RECON_OK);
+}
+
+static recon_session_answer convert_kept(const kept *k) {
+    const recon_unlabelled_session session = {k->session.marked, k->session.needed, k->session.done};
+    return recon_session_convert(k->times, k->times_len, k->ids, k->ids_len, session, k->marks, k->marks_len, k->needed, k->needed_len);
+}
+
+/* What can be wrong with a session that is to be converted, and its number. */
+enum {
+    FEW_IDS, NO_TIMES, FALLING, INFINITE, /* 1 and 2 */
+    FEW_MARKS, MORE_MARKS, HIGH_MARK, MARKED_LESS, MARKED_MORE, NEEDED_BYTES, FEW_NEEDED, MUCH_NEEDED, LISTED_MORE, EQUAL_IDS, KEPT_FAULTS
+};
+static const uint64_t kept_numbers[KEPT_FAULTS] = {1, 1, 2, 2, 4, 4, 4, 4, 4, 4, 4, 4, 4, 4};
+
+static void put_kept_fault(kept *k, unsigned fault) {
+    k->ids_len = fault == FEW_IDS ? 95 : k->ids_len;
+    k->times_len = fault == NO_TIMES ? 0 : k->times_len;
+    k->times[0] = fault == FALLING ? 6 : k->times[0];
+    k->times[2] = fault == INFINITE ? UINT64_MAX : k->times[2];
+    k->marks_len = fault == FEW_MARKS ? 2 : fault == MORE_MARKS ? 4 : k->marks_len;
+    k->marks[2] = fault == HIGH_MARK ? 2 : k->marks[2];
+    k->session.marked = fault == MARKED_LESS ? 0 : fault == MARKED_MORE ? 2 : k->session.marked;
+    k->needed_len = fault == NEEDED_BYTES ? 97 : fault == FEW_NEEDED ? 32 : k->needed_len;
+    k->session.needed = fault == MUCH_NEEDED ? (size_t)1 << 59 : fault == LISTED_MORE ? 3 : k->session.needed;
+    k->needed[32] = fault == EQUAL_IDS ? 8 : k->needed[32];
+}
+
+/* Every fault by itself and with each of a higher number, of sessions that are open and that are done; and no fault. */
+static void conversions(void) {
+    static kept k, before;
+    for (unsigned done = 0; done < 2; done++) {
+        put_kept(&k, done);
+        recon_session_answer a = convert_kept(&k);
+        expect("a session gets its label", a.refusal == RECON_OK && a.length == 0 && is_session(a.session, 1, 2, done, summed(ids, 3)));
+        for (unsigned first = 0; first < KEPT_FAULTS; first++)
+            for (unsigned second = first; second < KEPT_FAULTS; second++) {
+                if (kept_numbers[first] == kept_numbers[second] && first != second)
+                    continue;
+                put_kept(&k, done);
+                put_kept_fault(&k, second);
+                put_kept_fault(&k, first);
+                memcpy(&before, &k, sizeof k);
+                a = convert_kept(&k);
+                expect("a refused conversion", a.refusal == kept_numbers[first] && a.length == 0 && same_session(a.session, no_session));
+                expect("a conversion changes no byte", memcmp(&before, &k, sizeof k) == 0);
+            }
+    }
+    recon_session_answer none = recon_session_convert(times, 0, ids, 0, (recon_unlabelled_session){0, 0, true}, nothing, 0, nothing, 0);
+    expect("a session over no items gets the empty label", none.refusal == RECON_OK && is_session(none.session, 0, 0, true, no_session.label));
+}
+
+/* The fingerprint of E4's first two items, and what 9 refuses. */
+static void fingerprints(void) {
+    const uint8_t first[16] = {0x05, 0x5e, 0xc4, 0x05, 0xfe, 0xbf, 0xad, 0x80, 0x4c, 0x1c, 0x56, 0x38, 0xd7, 0x36, 0x93, 0x61};
+    const uint8_t prefix[33] = {0};
+    uint8_t out[17];
+    memset(out, OLD, sizeof out);
+    expect("a prefix at infinity", recon_fingerprint(times, 3, ids, 96, false, 0, nothing, 0, true, 0, prefix, 1, out) == RECON_BAD_BOUND);
+    expect("a prefix of 33 bytes", recon_fingerprint(times, 3, ids, 96, false, 0, prefix, 33, true, 0, nothing, 0, out) == RECON_BAD_BOUND);
+    expect("a table before its bounds", recon_fingerprint(times, 3, ids, 95, false, 0, prefix, 33, true, 0, nothing, 0, out) == RECON_TABLE_SIZE);
+    expect("a refused fingerprint changes nothing", begins(out, 17, nothing, 0));
+    expect("the items below time 7", recon_fingerprint(times, 3, ids, 96, false, 0, nothing, 0, false, 7, nothing, 0, out) == RECON_OK && begins(out, 17, first, 16));
+}
 
 /* A refused label of a run, and one that is not. */
 static int is_refused(recon_tree_answer a) { return a.refusal == RECON_WRONG_TREE && a.visited == 0 && is_label(a.label, summed(nothing, 0)); }
@@ -475,7 +635,7 @@ typedef struct {
 
 static recon_answer_t within(asked a, size_t bytes, uint8_t *out, size_t room) {
     static uint8_t marks[512], needed[1];
-    const recon_session begun = {0, 0, false};
+    const recon_session session = begun(a.ids, a.n);
     recon_session_answer sent;
     memset(marks, 0, sizeof marks);
     if (a.call == ANSWER)
@@ -483,8 +643,8 @@ static recon_answer_t within(asked a, size_t bytes, uint8_t *out, size_t room) {
     if (a.call == OPEN)
         sent = recon_open_within(a.times, a.n, a.ids, 32 * a.n, 2, LISTED, bytes, marks, a.n, needed, 0, out, room);
     else
-        sent = recon_take_within(a.times, a.n, a.ids, 32 * a.n, 2, LISTED, bytes, a.message, a.length, begun, marks, a.n, needed, 0, out, room);
-    expect("a session that reports nothing", is_session(sent.session, 0, 0, false));
+        sent = recon_take_within(a.times, a.n, a.ids, 32 * a.n, 2, LISTED, bytes, a.message, a.length, session, marks, a.n, needed, 0, out, room);
+    expect("a session that reports nothing", same_session(sent.session, a.call == OPEN && sent.refusal != RECON_OK ? no_session : session));
     return (recon_answer_t){sent.refusal, sent.length};
 }
 
@@ -701,6 +861,8 @@ static void prepare(int call, given *g, uint64_t fault) {
     memset(g->out, OLD, sizeof g->out);
     g->marks[0] = 1;
     g->session.marked = 1;
+    g->session.label = summed(ids, 3);
+    g->session.label.count += fault == 18;
     g->ids_len = fault == 1 ? 95 : 96;
     g->times[1] = fault == 2 ? UINT64_MAX : 5;
     g->parts = fault == 3 ? 1 : 2;
@@ -737,15 +899,15 @@ static void refused_within(int call, uint64_t fault, size_t bytes) {
     expect("a byte limit and another fault", a.refusal == number && a.length == (number == 0 ? lengths[call] : 0));
     expect("a refusal changes nothing", (memcmp(&g, &before, sizeof g) == 0) == (number != 0));
     if (call == OPEN)
-        expect("an opened session", is_session(a.session, 0, 0, false));
+        expect("an opened session", same_session(a.session, number == 0 ? begun(ids, 3) : no_session));
     else if (call == TAKE && number == 0)
-        expect("a session that went on", is_session(a.session, 2, 1, false));
+        expect("a session that went on", is_session(a.session, 2, 1, false, summed(ids, 3)));
     else
-        expect("a session stays", is_session(a.session, 1, 0, fault == 5));
+        expect("a session stays", same_session(a.session, g.session) && g.session.done == (fault == 5));
 }
 
 static void limit_refusals(void) {
-    static const uint64_t faults[CALLS][13] = {{1, 2, 3, 4, 12}, {1, 2, 3, 6, 7, 8, 9, 10, 12}, {1, 2, 3, 4, 5, 6, 7, 8, 9, 10, 11, 12}};
+    static const uint64_t faults[CALLS][14] = {{1, 2, 3, 4, 12}, {1, 2, 3, 6, 7, 8, 9, 10, 12}, {1, 2, 3, 4, 18, 5, 6, 7, 8, 9, 10, 11, 12}};
     static const size_t limits[] = {0, 1, 4095, 4096, 4097, SIZE_MAX};
     for (int call = 0; call < CALLS; call++)
         for (size_t k = 0; k < sizeof limits / sizeof limits[0]; k++) {
@@ -758,11 +920,10 @@ static void limit_refusals(void) {
 /* E11 with a byte limit: the session is done, without room for a message. */
 static void done_within(void) {
     const uint8_t reply[5] = {0x61, 0, 0, 2, 0}, one[1] = {1};
-    const recon_session begun = {0, 0, false};
     uint8_t marks[2] = {0, OLD}, needed[32], none[1] = {OLD};
     memset(needed, OLD, sizeof needed);
-    recon_session_answer taken = recon_take_within(times, 1, ids, 32, 2, 2, 4096, reply, 5, begun, marks, 1, needed, 32, none, 0);
-    expect("E11 is done within a limit", taken.refusal == RECON_OK && taken.length == 0 && is_session(taken.session, 1, 0, true));
+    recon_session_answer taken = recon_take_within(times, 1, ids, 32, 2, 2, 4096, reply, 5, begun(ids, 1), marks, 1, needed, 32, none, 0);
+    expect("E11 is done within a limit", taken.refusal == RECON_OK && taken.length == 0 && is_session(taken.session, 1, 0, true, summed(ids, 1)));
     expect("E11 marks its item", begins(marks, 2, one, 1) && begins(needed, 32, nothing, 0) && none[0] == OLD);
 }
 
@@ -842,6 +1003,15 @@ static recon_session_answer take_ours(size_t bytes, size_t length, recon_session
                              sizeof our_needed, sent_query, room_for(bytes));
 }
 
+static recon_unlabelled_session unlabelled(recon_session s) { return (recon_unlabelled_session){s.marked, s.needed, s.done}; }
+
+/* The session with the label of a table of ours, whose marks and needed list are those of the session. */
+static recon_session_answer convert_ours(const table *t, recon_session s) {
+    return recon_session_convert(t->times, t->n, t->ids, 32 * t->n, unlabelled(s), our_marks, t->n, our_needed, sizeof our_needed);
+}
+
+static int is_converted(recon_session_answer a, recon_session s) { return a.refusal == RECON_OK && a.length == 0 && same_session(a.session, s); }
+
 /* The limits of each end, for three of its calls in turn, 0 for none. */
 typedef struct {
     size_t ours[3], theirs[3];
@@ -859,6 +1029,7 @@ static course run_session(byte_limits l) {
     recon_session_answer sent = open_ours(l.ours[0]);
     expect("a session is opened", sent.refusal == RECON_OK);
     while (!sent.session.done) {
+        expect("a conversion gives an open session back", is_converted(convert_ours(&ours, sent.session), sent.session));
         const size_t our_bytes = l.ours[(c.takes + 1) % 3], their_bytes = l.theirs[c.takes % 3];
         c.query = larger(c.query, sent.length);
         const recon_answer_t reply = answer_theirs(their_bytes, sent.length);
@@ -870,6 +1041,7 @@ static course run_session(byte_limits l) {
         expect("the session ends", ++c.takes < RECORDS);
     }
     expect("a query is written until the session is done", sent.length == 0);
+    expect("a conversion gives a session back that is done", is_converted(convert_ours(&ours, sent.session), sent.session));
     return c;
 }
 
@@ -916,7 +1088,7 @@ static int is_inquiry(recon_inquiry a, uint64_t refusal, size_t entering, size_t
 }
 
 static int is_commit(recon_commit a, uint64_t refusal, size_t items, recon_session s) {
-    return a.refusal == refusal && a.items == items && is_session(a.session, s.marked, s.needed, s.done);
+    return a.refusal == refusal && a.items == items && same_session(a.session, s);
 }
 
 /* The inquiry says yes, the commit does what it said, and leaves every byte as in `after`. */
@@ -952,6 +1124,9 @@ static void put_item(uint64_t *t, uint8_t *i, size_t at, short_item item) {
     i[32 * at] = item.first;
 }
 
+/* No label is compared, and a commit keeps it. */
+static const recon_label any_label = {{UINT64_MAX, 1, 2, 3}, 4};
+
 /* What E21 to E23 have in common: a table of two items in buffers for four, three needed ids, and a batch of one or two. */
 static void put_fold(fold *f, const short_item *batch, size_t n) {
     const short_item items[2] = {{5, 1}, {7, 3}};
@@ -973,6 +1148,7 @@ static void put_fold(fold *f, const short_item *batch, size_t n) {
     f->session.marked = 1;
     f->session.needed = 3;
     f->session.done = true;
+    f->session.label = any_label;
 }
 
 /* The same afterwards: its items, and its needed ids by their first bytes. What stands behind them is what stood there before. */
@@ -1167,6 +1343,7 @@ static void some_fold(fold *f) {
     memset(&f->session, 0, sizeof f->session);
     f->session.marked = below(9);
     f->session.done = true;
+    f->session.label = any_label;
     for (size_t which = 0; which < 8; which++)
         if (below(4) > 0) /* in the order of ids, in which first bytes count first */
             some_id(f->needed + 32 * f->session.needed++, which / 4 + which % 4 * 2);
@@ -1259,16 +1436,31 @@ static recon_session take_in(recon_session s, const table *batch) {
     expect("no room for the last item", is_commit(commit_ours(s, batch, ours.n + batch->n - 1), RECON_TABLE_FULL, ours.n, s));
     expect("a refused commit changes nothing", memcmp(&before, &ours, sizeof ours) == 0);
     const recon_commit done = commit_ours(s, batch, RECORDS);
-    expect("the commit does what was said", is_commit(done, RECON_OK, ours.n + batch->n, (recon_session){s.marked, said.staying, true}));
+    expect("the commit does what was said", is_commit(done, RECON_OK, ours.n + batch->n, (recon_session){s.marked, said.staying, true, s.label}));
     ours.n = done.items;
     expect("the same batch again", is_inquiry(inquire_ours(done.session, batch), RECON_NOT_DUE, 0, 0));
     expect("it is not needed any more", is_commit(commit_ours(done.session, batch, RECORDS), RECON_NOT_DUE, ours.n, done.session));
     return done.session;
 }
 
+/* After a commit: the session keeps the label of the table at its opening, which gives it back. The table as it is now does not fit the marks, and
+   if they had its length, it would be another. */
+static void after_commit(const table *opened, recon_session s) {
+    const uint8_t says_nothing[1] = {0x61};
+    static uint8_t no_marks[RECORDS];
+    expect("a conversion gives a session back after a commit", is_converted(convert_ours(opened, s), s));
+    recon_session_answer marked = recon_session_convert(ours.times, ours.n, ours.ids, 32 * ours.n, unlabelled(s), our_marks, opened->n,
+                                                        our_needed, sizeof our_needed);
+    expect("the marks do not fit the table after a commit", marked.refusal == RECON_WRONG_STATE && same_session(marked.session, no_session));
+    s.marked = 0;
+    recon_session_answer taken = recon_take(ours.times, ours.n, ours.ids, 32 * ours.n, 16, 64, says_nothing, 1, s, no_marks, ours.n, our_needed,
+                                            sizeof our_needed, sent_query, ROOM);
+    expect("the table after a commit is another", taken.refusal == RECON_OTHER_TABLE && same_session(taken.session, s));
+}
+
 /* A session, then what only they have in so many batches, each of items from the whole table: then ours is the union, and both agree on it. */
 static void union_by(size_t batches, size_t bytes) {
-    static table both, batch, lacking;
+    static table both, batch, lacking, opened;
     memset(&ours, OLD, sizeof ours);
     memset(&both, OLD, sizeof both);
     fill(&ours, we_have, digest_of);
@@ -1277,6 +1469,8 @@ static void union_by(size_t batches, size_t bytes) {
     fill(&lacking, only_they_have, digest_of);
     recon_session s = finished(bytes);
     const size_t marked = s.marked;
+    const recon_label label = s.label;
+    opened = ours;
     expect("all of it is needed", s.needed == lacking.n && lacking.n > 0);
     for (size_t b = 0; b < batches; b++) {
         batch.n = 0;
@@ -1285,10 +1479,11 @@ static void union_by(size_t batches, size_t bytes) {
             memcpy(batch.ids + 32 * batch.n++, lacking.ids + 32 * k, 32);
         }
         s = take_in(s, &batch);
+        after_commit(&opened, s);
     }
-    expect("nothing is needed any more", is_session(s, marked, 0, true));
+    expect("nothing is needed any more", is_session(s, marked, 0, true, label));
     expect("the table is the union, and what is behind it stays", memcmp(&ours, &both, sizeof ours) == 0);
-    expect("another session finds nothing that is lacking", is_session(finished(bytes), marked, 0, true));
+    expect("another session finds nothing that is lacking", is_session(finished(bytes), marked, 0, true, summed(both.ids, both.n)));
 }
 
 static void unions(void) {
@@ -1300,7 +1495,7 @@ static void unions(void) {
 /* As many items as a table can have, at the times 0, 1, .. and with ids of zeros; t and i have room for one more. */
 static void largest_folds(uint64_t *t, uint8_t *i) {
     const size_t most = RECON_MAX_ITEMS, id_bytes = most * RECON_ID_BYTES, room = most + 1, room_bytes = id_bytes + RECON_ID_BYTES;
-    const recon_session session = {0, 1, true}, none_needed = {0, 0, true};
+    const recon_session session = {0, 1, true, any_label}, none_needed = {0, 0, true, any_label};
     uint64_t *times_then = malloc(room * sizeof *t);
     uint8_t *ids_then = malloc(room_bytes), needed[32] = {0};
     const uint64_t before[1] = {0}, behind[1] = {most};
@@ -1364,7 +1559,7 @@ static void take_from(long_fold *f, bool leaves(size_t)) {
     expect("what would leave a long list", is_inquiry(said, RECON_OK, f->batch, kept));
     const recon_commit done = recon_fold_commit(f->times, room, f->ids, 32 * room, f->items, f->session, f->needed, end, f->batch_times, f->batch,
                                                 f->batch_ids, 32 * f->batch);
-    expect("what leaves a long list", is_commit(done, RECON_OK, room, (recon_session){4, kept, true}));
+    expect("what leaves a long list", is_commit(done, RECON_OK, room, (recon_session){4, kept, true, any_label}));
     expect("the others stay, and what is behind them", memcmp(f->needed, f->expected, end) == 0);
     f->items = done.items;
     f->session = done.session;
@@ -1378,7 +1573,7 @@ static bool first_few(size_t k) { return k < 5; }
 
 static void long_lists(void) {
     long_fold f = {malloc(8 * RECON_MAX_ITEMS), malloc(8 * RECON_MAX_ITEMS), malloc(32 * RECON_MAX_ITEMS), malloc(32 * RECON_MAX_ITEMS),
-                   malloc((size_t)32 * LONG_LIST), malloc((size_t)32 * LONG_LIST), 0, 0, {4, LONG_LIST, true}};
+                   malloc((size_t)32 * LONG_LIST), malloc((size_t)32 * LONG_LIST), 0, 0, {4, LONG_LIST, true, any_label}};
     if (f.times == NULL || f.batch_times == NULL || f.ids == NULL || f.batch_ids == NULL || f.needed == NULL || f.expected == NULL)
         exit(2);
     for (size_t k = 0; k < LONG_LIST; k++)
@@ -1391,6 +1586,28 @@ static void long_lists(void) {
         falling++;
     expect("a table of later ids at earlier times", falling + 1 == f.items && f.items + f.session.needed == LONG_LIST);
     free(f.times), free(f.batch_times), free(f.ids), free(f.batch_ids), free(f.needed), free(f.expected);
+}
+
+/* The same items: converted, and taken with the table and with another last id. */
+static void largest_conversion(const uint64_t *t, uint8_t *i) {
+    const size_t most = RECON_MAX_ITEMS;
+    const uint8_t reply[1] = {0x61};
+    uint8_t *marks = calloc(most + 1, 1), none[1] = {OLD};
+    if (marks == NULL)
+        exit(2);
+#define CONVERT(n) recon_session_convert(t, n, i, 32 * (n), (recon_unlabelled_session){0, 0, false}, marks, n, nothing, 0)
+#define TAKE_WITH(s) recon_take(t, most, i, 32 * most, 2, 2, reply, 1, s, marks, most, none, 0, none, 0).refusal
+    const recon_session_answer one_more = CONVERT(most + 1), converted = CONVERT(most);
+    expect("one item more", one_more.refusal == RECON_TABLE_SIZE && same_session(one_more.session, no_session));
+    expect("the most items are converted", is_converted(converted, (recon_session){0, 0, false, {{0, 0, 0, 0}, most}}));
+    expect("the most items are taken", TAKE_WITH(converted.session) == RECON_OK);
+    i[32 * most - 1] = 1;
+    expect("another last id", TAKE_WITH(converted.session) == RECON_OTHER_TABLE);
+    expect("its label", is_converted(CONVERT(most), (recon_session){0, 0, false, {{0, 0, 0, (uint64_t)1 << 56}, most}}));
+    i[32 * most - 1] = 0;
+#undef CONVERT
+#undef TAKE_WITH
+    free(marks);
 }
 
 /* The refusal of an answer about a table of n items, with so many bytes of ids, or by this cut, or by this byte limit. */
@@ -1423,6 +1640,7 @@ static void limits(void) {
     expect("the most items", by_size(t, most, i, most * RECON_ID_BYTES) == RECON_OK);
     expect("one item more", by_size(t, most + 1, i, (most + 1) * RECON_ID_BYTES) == RECON_TABLE_SIZE);
     expect("the bytes of an id", by_size(t, 1, i, RECON_ID_BYTES) == RECON_OK && by_size(t, 1, i, RECON_ID_BYTES + 1) == RECON_TABLE_SIZE);
+    largest_conversion(t, i);
     largest_tree(t, i);
     largest_folds(t, i);
     free(t);
@@ -1486,6 +1704,9 @@ int main(void) {
     two_ranges();
     former_rule();
     reports();
+    layouts();
+    other_tables();
+    conversions();
     versions();
     cut_list();
     cut_runs();

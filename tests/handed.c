@@ -7,7 +7,7 @@
 
 #include "recon.h"
 
-enum { MOST = 16 };
+enum { MOST = 20 };
 
 /* What came over, in order: slices with their lengths, and numbers. */
 static struct {
@@ -31,13 +31,22 @@ static void table(const uint64_t *times, size_t times_len, const uint8_t *ids, s
     slice(ids, ids_len);
 }
 
+static void kept(recon_session s) {
+    number(s.marked), number(s.needed), number(s.done);
+    for (size_t i = 0; i < 4; i++)
+        number(s.label.sum[i]);
+    number(s.label.count);
+}
+
+/* What the calls of an opener answer. */
+static const recon_session_answer sent = {12, 34, {56, 78, true, {{90, 12, 34, 56}, 78}}};
+
 recon_session_answer(recon_open)(const uint64_t *times, size_t times_len, const uint8_t *ids, size_t ids_len, size_t parts, size_t limit,
                                  uint8_t *marks, size_t marks_len, const uint8_t *needed, size_t needed_len, uint8_t *out, size_t out_len) {
-    const recon_session_answer answer = {12, 34, {56, 78, true}};
     table(times, times_len, ids, ids_len);
     number(parts), number(limit);
     slice(marks, marks_len), slice(needed, needed_len), slice(out, out_len);
-    return answer;
+    return sent;
 }
 
 recon_answer_t(recon_answer)(const uint64_t *times, size_t times_len, const uint8_t *ids, size_t ids_len, size_t parts, size_t limit,
@@ -52,23 +61,21 @@ recon_answer_t(recon_answer)(const uint64_t *times, size_t times_len, const uint
 recon_session_answer(recon_take)(const uint64_t *times, size_t times_len, const uint8_t *ids, size_t ids_len, size_t parts, size_t limit,
                                  const uint8_t *reply, size_t reply_len, recon_session session, uint8_t *marks, size_t marks_len,
                                  uint8_t *needed, size_t needed_len, uint8_t *out, size_t out_len) {
-    const recon_session_answer answer = {12, 34, {56, 78, true}};
     table(times, times_len, ids, ids_len);
     number(parts), number(limit);
     slice(reply, reply_len);
-    number(session.marked), number(session.needed), number(session.done);
+    kept(session);
     slice(marks, marks_len), slice(needed, needed_len), slice(out, out_len);
-    return answer;
+    return sent;
 }
 
 recon_session_answer(recon_open_within)(const uint64_t *times, size_t times_len, const uint8_t *ids, size_t ids_len, size_t parts, size_t limit,
                                         size_t bytes, uint8_t *marks, size_t marks_len, const uint8_t *needed, size_t needed_len, uint8_t *out,
                                         size_t out_len) {
-    const recon_session_answer answer = {12, 34, {56, 78, true}};
     table(times, times_len, ids, ids_len);
     number(parts), number(limit), number(bytes);
     slice(marks, marks_len), slice(needed, needed_len), slice(out, out_len);
-    return answer;
+    return sent;
 }
 
 recon_answer_t(recon_answer_within)(const uint64_t *times, size_t times_len, const uint8_t *ids, size_t ids_len, size_t parts, size_t limit,
@@ -83,13 +90,21 @@ recon_answer_t(recon_answer_within)(const uint64_t *times, size_t times_len, con
 recon_session_answer(recon_take_within)(const uint64_t *times, size_t times_len, const uint8_t *ids, size_t ids_len, size_t parts, size_t limit,
                                         size_t bytes, const uint8_t *reply, size_t reply_len, recon_session session, uint8_t *marks,
                                         size_t marks_len, uint8_t *needed, size_t needed_len, uint8_t *out, size_t out_len) {
-    const recon_session_answer answer = {12, 34, {56, 78, true}};
     table(times, times_len, ids, ids_len);
     number(parts), number(limit), number(bytes);
     slice(reply, reply_len);
-    number(session.marked), number(session.needed), number(session.done);
+    kept(session);
     slice(marks, marks_len), slice(needed, needed_len), slice(out, out_len);
-    return answer;
+    return sent;
+}
+
+recon_session_answer(recon_session_convert)(const uint64_t *times, size_t times_len, const uint8_t *ids, size_t ids_len,
+                                            recon_unlabelled_session session, const uint8_t *marks, size_t marks_len, const uint8_t *needed,
+                                            size_t needed_len) {
+    table(times, times_len, ids, ids_len);
+    number(session.marked), number(session.needed), number(session.done);
+    slice(marks, marks_len), slice(needed, needed_len);
+    return sent;
 }
 
 recon_inquiry(recon_fold_inquire)(const uint64_t *times, size_t times_len, const uint8_t *ids, size_t ids_len, size_t items,
@@ -97,7 +112,7 @@ recon_inquiry(recon_fold_inquire)(const uint64_t *times, size_t times_len, const
                                   size_t batch_times_len, const uint8_t *batch_ids, size_t batch_ids_len) {
     const recon_inquiry answer = {12, 34, 56};
     table(times, times_len, ids, ids_len);
-    number(items), number(session.marked), number(session.needed), number(session.done);
+    number(items), kept(session);
     slice(needed, needed_len);
     table(batch_times, batch_times_len, batch_ids, batch_ids_len);
     return answer;
@@ -106,9 +121,9 @@ recon_inquiry(recon_fold_inquire)(const uint64_t *times, size_t times_len, const
 recon_commit(recon_fold_commit)(uint64_t *times, size_t times_len, uint8_t *ids, size_t ids_len, size_t items, recon_session session,
                                 uint8_t *needed, size_t needed_len, const uint64_t *batch_times, size_t batch_times_len,
                                 const uint8_t *batch_ids, size_t batch_ids_len) {
-    const recon_commit answer = {12, 34, {56, 78, true}};
+    const recon_commit answer = {12, 34, sent.session};
     table(times, times_len, ids, ids_len);
-    number(items), number(session.marked), number(session.needed), number(session.done);
+    number(items), kept(session);
     slice(needed, needed_len);
     table(batch_times, batch_times_len, batch_ids, batch_ids_len);
     return answer;
@@ -212,7 +227,10 @@ static void expect(const char *call, const char *form, unsigned numbers, int ans
     count = lengths_evaluated = numbers_evaluated = 0;
 }
 
-static int is_session(recon_session s) { return s.marked == 56 && s.needed == 78 && s.done; }
+static int is_session(recon_session s) {
+    const recon_label l = s.label;
+    return s.marked == 56 && s.needed == 78 && s.done && l.sum[0] == 90 && l.sum[1] == 12 && l.sum[2] == 34 && l.sum[3] == 56 && l.count == 78;
+}
 
 static int is_answer(recon_session_answer a) { return a.refusal == 12 && a.length == 34 && is_session(a.session); }
 
@@ -229,26 +247,29 @@ static void calls_within(recon_session session) {
     expect("recon_answer_within", "TB236BB", 3, answer.refusal == 12 && answer.length == 34);
     recon_session_answer taken =
         recon_take_within(TIMES(0), BYTES(1), evaluated(2), evaluated(3), evaluated(6), BYTES(2), session, BYTES(3), BYTES(4), BYTES(5));
-    expect("recon_take_within", "TB236B451BBB", 3, is_answer(taken));
+    expect("recon_take_within", "TB236B45167893BBB", 3, is_answer(taken));
 }
 
 /* Folding in, into a table of 6 items. */
 static void calls_for_folding(recon_session session) {
     recon_inquiry asked = recon_fold_inquire(TIMES(0), BYTES(1), evaluated(6), session, BYTES(2), TIMES(3), BYTES(4));
-    expect("recon_fold_inquire", "TB6451BTB", 1, asked.refusal == 12 && asked.entering == 34 && asked.staying == 56);
+    expect("recon_fold_inquire", "TB645167893BTB", 1, asked.refusal == 12 && asked.entering == 34 && asked.staying == 56);
     recon_commit done = recon_fold_commit(TIMES(0), BYTES(1), evaluated(6), session, BYTES(2), TIMES(3), BYTES(4));
-    expect("recon_fold_commit", "TB6451BTB", 1, done.refusal == 12 && done.items == 34 && is_session(done.session));
+    expect("recon_fold_commit", "TB645167893BTB", 1, done.refusal == 12 && done.items == 34 && is_session(done.session));
 }
 
 static void all_calls(void) {
-    const recon_session session = {4, 5, true};
+    const recon_session session = {4, 5, true, {{6, 7, 8, 9}, 3}};
+    const recon_unlabelled_session unlabelled = {4, 5, true};
     recon_session_answer opened = recon_open(TIMES(0), BYTES(1), evaluated(2), evaluated(3), BYTES(2), BYTES(3), BYTES(4));
     expect("recon_open", "TB23BBB", 2, is_answer(opened));
     recon_answer_t answer = recon_answer(TIMES(0), BYTES(1), evaluated(2), evaluated(3), BYTES(2), BYTES(3));
     expect("recon_answer", "TB23BB", 2, answer.refusal == 12 && answer.length == 34);
     recon_session_answer taken = recon_take(TIMES(0), BYTES(1), evaluated(2), evaluated(3), BYTES(2), session, BYTES(3), BYTES(4), BYTES(5));
-    expect("recon_take", "TB23B451BBB", 2, is_answer(taken));
+    expect("recon_take", "TB23B45167893BBB", 2, is_answer(taken));
     calls_within(session);
+    recon_session_answer converted = recon_session_convert(TIMES(0), BYTES(1), unlabelled, BYTES(2), BYTES(3));
+    expect("recon_session_convert", "TB451BB", 0, is_answer(converted));
     calls_for_folding(session);
     uint64_t lower = recon_fingerprint(TIMES(0), BYTES(1), false, evaluated(3), BYTES(2), true, evaluated(5), BYTES(3), bytes);
     expect("recon_fingerprint", "TB03B15BO", 2, lower == 12);

@@ -47,10 +47,19 @@ static lent fresh(void) {
     return l;
 }
 
+static int same(recon_session a, recon_session b) {
+    return a.marked == b.marked && a.needed == b.needed && a.done == b.done && memcmp(&a.label, &b.label, sizeof a.label) == 0;
+}
+
 static int alike(recon_session_answer a, recon_session_answer b) {
     unrefused += a.refusal == RECON_OK;
-    return a.refusal == b.refusal && a.length == b.length && a.session.marked == b.session.marked && a.session.needed == b.session.needed &&
-           a.session.done == b.session.done;
+    return a.refusal == b.refusal && a.length == b.length && same(a.session, b.session);
+}
+
+/* What an opening leaves: the ids are zeros, two or none. */
+static recon_session begun(unsigned empty) {
+    const recon_session session = {0, 0, false, {{0, 0, 0, 0}, (uint64_t)(empty & TIMES ? 0 : 2)}};
+    return session;
 }
 
 static void opened(unsigned empty) {
@@ -73,7 +82,7 @@ static void answered(unsigned empty) {
 }
 
 static void taken(unsigned empty) {
-    const recon_session session = {0, 0, false};
+    const recon_session session = begun(empty);
     lent a = fresh(), b = fresh();
     recon_session_answer x = recon_take(NULL_OR(TIMES, a.times, 2), NULL_OR(IDS, a.ids, 64), 2, 2, NULL_OR(MESSAGE, a.message, 5), session,
                                         NULL_OR(MARKS, a.marks, 2), NULL_OR(NEEDED, a.needed, 64), NULL_OR(OUT, a.out, 128));
@@ -104,7 +113,7 @@ static void answered_within(unsigned empty) {
 }
 
 static void taken_within(unsigned empty) {
-    const recon_session session = {0, 0, false};
+    const recon_session session = begun(empty);
     lent a = fresh(), b = fresh();
     recon_session_answer x =
         recon_take_within(NULL_OR(TIMES, a.times, 2), NULL_OR(IDS, a.ids, 64), 2, 2, 4096, NULL_OR(MESSAGE, a.message, 5), session,
@@ -115,11 +124,25 @@ static void taken_within(unsigned empty) {
     expect("recon_take_within", empty, alike(x, y) && memcmp(&a, &b, sizeof a) == 0);
 }
 
+static void converted(unsigned empty) {
+    const recon_unlabelled_session session = {0, (size_t)(empty & NEEDED ? 0 : 2), true};
+    lent a = fresh(), b = fresh();
+    recon_session_answer x = recon_session_convert(NULL_OR(TIMES, a.times, 2), NULL_OR(IDS, a.ids, 64), session, NULL_OR(MARKS, a.marks, 2),
+                                                   NULL_OR(NEEDED, a.needed, 64));
+    recon_session_answer y = (recon_session_convert)(SOME_OR(TIMES, b.times, 2), SOME_OR(IDS, b.ids, 64), session, SOME_OR(MARKS, b.marks, 2),
+                                                     SOME_OR(NEEDED, b.needed, 64));
+    expect("recon_session_convert", empty, alike(x, y) && memcmp(&a, &b, sizeof a) == 0);
+    if (empty == (TIMES | IDS | MARKS | NEEDED))
+        expect("recon_session_convert of nothing", empty, x.refusal == RECON_OK && x.session.done && x.session.label.count == 0);
+    if (empty == 0)
+        expect("recon_session_convert of two items", empty, x.refusal == RECON_OK && x.session.done && x.session.label.count == 2);
+}
+
 /* The item count and the needed ids fit what is there: a table of two items in buffers for three, or of none, and two ids, or none. */
 static size_t item_count(unsigned empty) { return empty & (TIMES | IDS) ? 0 : 2; }
 
 static recon_session finished(unsigned empty) {
-    const recon_session session = {1, (size_t)(empty & NEEDED ? 0 : 2), true};
+    const recon_session session = {1, (size_t)(empty & NEEDED ? 0 : 2), true, {{2, 3, 4, 5}, 6}};
     return session;
 }
 
@@ -145,10 +168,11 @@ static void committed(unsigned empty) {
     recon_commit y = (recon_fold_commit)(SOME_OR(TIMES, b.times, 3), SOME_OR(IDS, b.ids, 96), item_count(empty), finished(empty),
                                          SOME_OR(NEEDED, b.needed, 64), SOME_OR(BATCH_TIMES, b.batch_times, 1),
                                          SOME_OR(BATCH_IDS, b.batch_ids, 32));
-    const int same = x.refusal == y.refusal && x.items == y.items && x.session.needed == y.session.needed && x.session.marked == 1 &&
-                     y.session.marked == 1 && x.session.done && y.session.done;
+    recon_session kept = finished(empty);
+    kept.needed = x.session.needed;
     unrefused += x.refusal == RECON_OK;
-    expect("recon_fold_commit", empty, same && memcmp(&a, &b, sizeof a) == 0);
+    expect("recon_fold_commit", empty, x.refusal == y.refusal && x.items == y.items && same(x.session, y.session) && memcmp(&a, &b, sizeof a) == 0);
+    expect("recon_fold_commit keeps the rest of the session", empty, same(x.session, kept));
     if (empty == (TIMES | IDS | NEEDED | BATCH_TIMES | BATCH_IDS))
         expect("recon_fold_commit of nothing", empty, x.refusal == RECON_OK && x.items == 0);
     if (empty == 0)
@@ -213,6 +237,7 @@ int main(void) {
         opened_within(empty);
         answered_within(empty);
         taken_within(empty);
+        converted(empty);
         inquired(empty);
         committed(empty);
         fingerprinted(empty);

@@ -1,5 +1,5 @@
-/* How much stack a take keeps, with and without a byte limit, at most 512 KiB, a call on the largest tree of a table, at most 16 KiB, and a call that
-   folds in, at most 200 KiB. Each runs on a stack of its own, every byte of which is written before; what is changed afterwards was used. */
+/* How much stack a take keeps, with and without a byte limit, at most 512 KiB, a conversion of a session over the largest table and a call on its
+   tree, at most 16 KiB, and a call that folds in, at most 200 KiB. Each runs on a stack of its own, every byte of which is written before; what is changed afterwards was used. */
 #define _GNU_SOURCE
 #include "recon.h"
 #include <pthread.h>
@@ -11,7 +11,7 @@
 #define THEIRS 60000
 #define LISTED 50
 #define LIMIT ((size_t)512 * 1024)
-#define TREE_LIMIT ((size_t)16 * 1024)
+#define SMALL_LIMIT ((size_t)16 * 1024)
 #define FOLD_LIMIT ((size_t)200 * 1024)
 #define HALF (RECON_MAX_ITEMS / 2)
 #define STACK ((size_t)4 * 1024 * 1024)
@@ -23,14 +23,14 @@ static uint8_t query[32 * OWN + 4096], reply[33 * THEIRS + 4096];
 static size_t reply_length, room;
 static recon_session_answer answer;
 
-/* A table of as many items as one can have, and its tree. */
+/* A table of as many items as one can have, its marks and its tree. */
 static uint64_t *most_times;
-static uint8_t *most_ids, *tree;
+static uint8_t *most_ids, *most_marks, *tree;
 
 /* Half of it as a batch for the other half, and more needed ids than a table can have items. */
 static uint64_t *batch_times;
 static uint8_t *batch_ids, *list;
-static const recon_session finished = {0, RECON_MAX_ITEMS + HALF, true};
+static const recon_session finished = {0, RECON_MAX_ITEMS + HALF, true, {{0, 0, 0, 0}, 0}};
 
 /* SplitMix64. */
 static uint64_t next(uint64_t *state) {
@@ -58,6 +58,13 @@ static void *take_within(void *unused) {
     (void)unused;
     answer = recon_take_within(own_times, OWN, own_ids, sizeof own_ids, 16, 64, RECON_MIN_BYTE_LIMIT, reply, reply_length, answer.session,
                                marks, OWN, needed, 32 * room, query, sizeof query);
+    return NULL;
+}
+
+static void *convert(void *unused) {
+    const recon_unlabelled_session begun = {0, 0, false};
+    (void)unused;
+    answer = recon_session_convert(most_times, RECON_MAX_ITEMS, most_ids, 32 * RECON_MAX_ITEMS, begun, most_marks, RECON_MAX_ITEMS, needed, 0);
     return NULL;
 }
 
@@ -127,11 +134,19 @@ static size_t used(void *call(void *), size_t ids, uint64_t refusal) {
 
 static size_t larger(size_t a, size_t b) { return a > b ? a : b; }
 
+/* What a conversion uses. */
+static size_t used_for_conversion(void) {
+    most_marks = calloc(RECON_MAX_ITEMS, 1);
+    if (most_marks == NULL) exit(2);
+    size_t converted = used_by(convert, 0);
+    free(most_marks);
+    return converted;
+}
+
 /* The most that one of the calls on trees uses. */
 static size_t used_for_trees(void) {
     tree = malloc(recon_tree_bytes(RECON_MAX_ITEMS));
     if (tree == NULL) exit(2);
-    for (size_t i = 0; i < RECON_MAX_ITEMS; i++) most_times[i] = i;
     size_t built = used_by(build, 0), appended = used_by(append, 0), labelled = used_by(label, 0);
     free(tree);
     return larger(built, larger(appended, labelled));
@@ -199,13 +214,14 @@ int main(void) {
     most_times = malloc(8 * RECON_MAX_ITEMS);
     most_ids = calloc(RECON_MAX_ITEMS, 32);
     if (most_times == NULL || most_ids == NULL) exit(2);
+    for (size_t i = 0; i < RECON_MAX_ITEMS; i++) most_times[i] = i;
     size_t refused = used(take, THEIRS - 1, 11), refused_within = used(take_within, THEIRS - 1, 11);
-    size_t trees = used_for_trees(), folds = used_for_folds();
-    printf("a take keeps %zu KiB on the stack, with a byte limit %zu KiB, one that is refused by 11 %zu and %zu KiB, a call on a tree %zu KiB, "
-           "one that folds in %zu KiB\n",
-           joined / 1024, within / 1024, refused / 1024, refused_within / 1024, trees / 1024, folds / 1024);
+    size_t converted = used_for_conversion(), trees = used_for_trees(), folds = used_for_folds();
+    printf("a take keeps %zu KiB on the stack, with a byte limit %zu KiB, one that is refused by 11 %zu and %zu KiB, a conversion %zu KiB, "
+           "a call on a tree %zu KiB, one that folds in %zu KiB\n",
+           joined / 1024, within / 1024, refused / 1024, refused_within / 1024, converted / 1024, trees / 1024, folds / 1024);
     free(most_times);
     free(most_ids);
     const size_t takes = larger(larger(joined, within), larger(refused, refused_within));
-    return takes <= LIMIT && trees <= TREE_LIMIT && folds <= FOLD_LIMIT ? 0 : 1;
+    return takes <= LIMIT && larger(converted, trees) <= SMALL_LIMIT && folds <= FOLD_LIMIT ? 0 : 1;
 }

@@ -24,7 +24,8 @@ typedef struct {
     size_t length;
 } buffer;
 
-/* What the opener keeps from one call to the next. The responder keeps its table alone. */
+/* What the opener keeps from one call to the next. Its records stay the same: a take with others is refused by 18. The responder keeps its table
+   alone. */
 typedef struct {
     table records;
     buffer marks;
@@ -77,7 +78,7 @@ static table records_except(uint64_t first, uint64_t step) {
 
 /* The opener with its first query. Its buffers are small on purpose: RECON_OPENING_BYTES would save the second call. */
 static opener open_session(table t) {
-    opener o = {t, new_buffer(t.count), new_buffer(RECON_ID_BYTES), new_buffer(64), {0, 0, false}};
+    opener o = {t, new_buffer(t.count), new_buffer(RECON_ID_BYTES), new_buffer(64), {0, 0, false, {{0, 0, 0, 0}, 0}}};
     for (;;) {
         recon_session_answer sent = recon_open(t.times, t.count, t.ids, t.count * RECON_ID_BYTES, RECON_DEFAULT_PARTS, RECON_DEFAULT_LIMIT,
                                                o.marks.bytes, t.count, o.needed.bytes, o.needed.size, o.query.bytes, o.query.size);

@@ -159,9 +159,9 @@ typedef struct {
     uint8_t ids[128], marks[4], needed[97];
     size_t times_len, ids_len, marks_len, needed_len;
     recon_session session;
-} kept;
+} kept_session;
 
-static void put_kept(kept *k, bool done) {
+static void put_kept(kept_session *k, bool done) {
     const uint8_t needed[96] = {[0] = 8, [32] = 9, [64] = 7};
     memset(k, 0, sizeof *k);
     memcpy(k->times, times, sizeof times);
@@ -179,9 +179,9 @@ static void put_kept(kept *k, bool done) {
 }
 
 /* A take of a reply that says nothing; it changes no byte, whether it is refused or ends the session. Its number. */
-static uint64_t take_kept(kept *k) {
+static uint64_t take_kept(kept_session *k) {
     const uint8_t reply[1] = {0x61};
-    static kept before;
+    static kept_session before;
     uint8_t none[1] = {OLD};
     memcpy(&before, k, sizeof before);
     recon_session_answer a = recon_take(k->times, k->times_len, k->ids, k->ids_len, 2, 2, reply, 1, k->session, k->marks, k->marks_len, k->needed,
@@ -194,14 +194,14 @@ static uint64_t take_kept(kept *k) {
 }
 
 /* Changes the table, or the label: 18, of sessions that are done too. */
-static void other_table(const char *what, kept *k, uint64_t number) {
+static void other_table(const char *what, kept_session *k, uint64_t number) {
     expect(what, take_kept(k) == number);
     k->session.done = true;
     expect(what, take_kept(k) == (number == RECON_OK ? RECON_SESSION_DONE : number));
 }
 
 static void other_tables(void) {
-    static kept k;
+    static kept_session k;
     put_kept(&k, false);
     other_table("the table of the opening", &k, RECON_OK);
     for (size_t byte = 0; byte < 32; byte++) {
@@ -243,7 +243,7 @@ static void other_tables(void) {
     other_table("other ids with the same sum", &k, RECON_OK);
 }
 
-static recon_session_answer convert_kept(const kept *k) {
+static recon_session_answer convert_kept(const kept_session *k) {
     const recon_unlabelled_session session = {k->session.marked, k->session.needed, k->session.done};
     return recon_session_convert(k->times, k->times_len, k->ids, k->ids_len, session, k->marks, k->marks_len, k->needed, k->needed_len);
 }
@@ -255,7 +255,7 @@ enum {
 };
 static const uint64_t kept_numbers[KEPT_FAULTS] = {1, 1, 2, 2, 4, 4, 4, 4, 4, 4, 4, 4, 4, 4};
 
-static void put_kept_fault(kept *k, unsigned fault) {
+static void put_kept_fault(kept_session *k, unsigned fault) {
     k->ids_len = fault == FEW_IDS ? 95 : k->ids_len;
     k->times_len = fault == NO_TIMES ? 0 : k->times_len;
     k->times[0] = fault == FALLING ? 6 : k->times[0];
@@ -270,7 +270,7 @@ static void put_kept_fault(kept *k, unsigned fault) {
 
 /* Every fault by itself and with each of a higher number, of sessions that are open and that are done; and no fault. */
 static void conversions(void) {
-    static kept k, before;
+    static kept_session k, before;
     for (unsigned done = 0; done < 2; done++) {
         put_kept(&k, done);
         recon_session_answer a = convert_kept(&k);

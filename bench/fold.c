@@ -58,7 +58,7 @@ static void renew(const input *in, fold *f) {
     f->times_len = ITEMS;
     f->ids_len = 32 * (size_t)ITEMS;
     f->items = items;
-    f->session = (recon_session){0, in->count, true};
+    f->session = (recon_session){0, in->count, true, {{1, 2, 3, 4}, 5}};
     f->needed_len = 32 * in->count;
     f->batch_times = in->batch_times;
     f->batch_times_len = in->batch;
@@ -70,7 +70,8 @@ static int same_answers(void) {
     return proved_said.refusal == plain_said.refusal && proved_said.entering == plain_said.entering && proved_said.staying == plain_said.staying &&
            proved_did.refusal == plain_did.refusal && proved_did.items == plain_did.items &&
            proved_did.session.marked == plain_did.session.marked && proved_did.session.needed == plain_did.session.needed &&
-           proved_did.session.done == plain_did.session.done;
+           proved_did.session.done == plain_did.session.done &&
+           memcmp(&proved_did.session.label, &plain_did.session.label, sizeof(recon_label)) == 0;
 }
 
 /* After the commits. */

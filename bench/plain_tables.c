@@ -48,27 +48,66 @@ uint64_t plain_check_table_words(const uint64_t *times, size_t n, const uint8_t 
     return n > 0 && times[n - 1] == UINT64_MAX ? 2 : 0;
 }
 
+typedef struct {
+    unsigned long long a, b, c, d;
+} words;
+
 /* Four words with carry, of which gcc -O2 makes an add and three adc. Two sums of 128 bits, and __builtin_add_overflow word by word, were
    slower. */
-void plain_add_ids(const uint8_t *ids, size_t id_bytes, uint64_t sum[4]) {
-    unsigned long long a = 0, b = 0, c = 0, d = 0;
-    const uint8_t *end = ids + id_bytes;
-    for (const uint8_t *id = ids; id < end; id += 32) {
-        unsigned long long w, x, y, z;
-        unsigned char carry = _addcarry_u64(0, load(id), a, &w);
-        carry = _addcarry_u64(carry, load(id + 8), b, &x);
-        carry = _addcarry_u64(carry, load(id + 16), c, &y);
-        _addcarry_u64(carry, load(id + 24), d, &z);
-        a = w;
-        b = x;
-        c = y;
-        d = z;
-    }
-    sum[0] = a;
-    sum[1] = b;
-    sum[2] = c;
-    sum[3] = d;
+static inline words plus(words sum, const uint8_t *id) {
+    unsigned long long w, x, y, z;
+    unsigned char carry = _addcarry_u64(0, load(id), sum.a, &w);
+    carry = _addcarry_u64(carry, load(id + 8), sum.b, &x);
+    carry = _addcarry_u64(carry, load(id + 16), sum.c, &y);
+    _addcarry_u64(carry, load(id + 24), sum.d, &z);
+    return (words){w, x, y, z};
 }
+
+static void put_sum(uint64_t sum[4], words w) {
+    sum[0] = w.a;
+    sum[1] = w.b;
+    sum[2] = w.c;
+    sum[3] = w.d;
+}
+
+void plain_add_ids(const uint8_t *ids, size_t id_bytes, uint64_t sum[4]) {
+    words w = {0, 0, 0, 0};
+    const uint8_t *end = ids + id_bytes;
+    for (const uint8_t *id = ids; id < end; id += 32)
+        w = plus(w, id);
+    put_sum(sum, w);
+}
+
+static int marks_are_right(const uint8_t *marks, size_t n, size_t marked) {
+    size_t ones = 0;
+    uint8_t high = 0;
+    for (size_t i = 0; i < n; i++) {
+        ones += marks[i];
+        high |= marks[i];
+    }
+    return high <= 1 && ones == marked;
+}
+
+/* Once with memcmp and once with words: the functions differ in that alone. */
+#define CHECK_AND_ADD(name, rises)                                                                                                           \
+    uint64_t name(const uint64_t *times, size_t n, const uint8_t *ids, size_t id_bytes, const uint8_t *marks, size_t marks_len, size_t marked, \
+                  uint64_t sum[4]) {                                                                                                         \
+        words w = {0, 0, 0, 0};                                                                                                              \
+        if (n > MOST_ITEMS || id_bytes != 32 * n)                                                                                            \
+            return 1;                                                                                                                        \
+        for (size_t i = 0; i < n; i++) {                                                                                                     \
+            const uint8_t *id = ids + 32 * i;                                                                                                \
+            if (i > 0 && times[i - 1] >= times[i] && (times[i - 1] > times[i] || !(rises)))                                                  \
+                return 2;                                                                                                                    \
+            w = plus(w, id);                                                                                                                 \
+        }                                                                                                                                    \
+        if (n > 0 && times[n - 1] == UINT64_MAX)                                                                                             \
+            return 2;                                                                                                                        \
+        put_sum(sum, w);                                                                                                                     \
+        return marks_len == n && marks_are_right(marks, n, marked) ? 0 : 4;                                                                  \
+    }
+CHECK_AND_ADD(plain_check_and_add, memcmp(id - 32, id, 32) < 0)
+CHECK_AND_ADD(plain_check_and_add_words, below(id - 32, id))
 
 /* Lays down a varint, most significant digit first; its length. */
 static size_t put_varint(uint8_t *p, uint64_t value) {

@@ -10,6 +10,13 @@ uint64_t plain_check_table(const uint64_t *times, size_t n, const uint8_t *ids, 
 /* The same, with ids compared by words instead of memcmp. */
 uint64_t plain_check_table_words(const uint64_t *times, size_t n, const uint8_t *ids, size_t id_bytes);
 
+/* The check of a session's marks and of a table, and the sum of its ids, in one pass over each; with 4 for marks that are not one for each item, are
+   above 1, or are not 1 as often as that. Ids are compared by memcmp, and by words. */
+uint64_t plain_check_and_add(const uint64_t *times, size_t n, const uint8_t *ids, size_t id_bytes, const uint8_t *marks, size_t marks_len,
+                             size_t marked, uint64_t sum[4]);
+uint64_t plain_check_and_add_words(const uint64_t *times, size_t n, const uint8_t *ids, size_t id_bytes, const uint8_t *marks, size_t marks_len,
+                                   size_t marked, uint64_t sum[4]);
+
 /* The sum of ids of 32 bytes each, modulo 2^256, least significant word first. */
 void plain_add_ids(const uint8_t *ids, size_t id_bytes, uint64_t sum[4]);
 

@@ -1,7 +1,9 @@
 /* recon_fingerprint on a table of 1,048,576 items, against plain C, and the time to read the same memory once. Between infinity and infinity
    it is the check of the table, and one hash of the empty label; between time 0 and infinity it is the check, the label of all items, and
-   one hash. Each time is the least of several turns; the turns alternate, so that a slow moment meets all, and each begins with another of
-   them, since the first finds the memory cold. */
+   one hash. Then recon_session_convert on the same tables: the checks 1, 2 and 4 and the label, which a take makes too. It is set against plain C
+   that does the same in one pass, and against the two calls of recon_fingerprint: the check alone, and the check and then the label, in two passes.
+   Each time is the least of several turns; the turns alternate, so that a slow moment meets all, and each begins with another of them, since the
+   first finds the memory cold. */
 #include <stdio.h>
 #include <stdlib.h>
 #include <string.h>
@@ -73,29 +75,133 @@ static result reading(table t, bool ids_too) {
 
 static int same(result a, result b) { return a.refusal == b.refusal && memcmp(a.fingerprint, b.fingerprint, 16) == 0; }
 
+/* One way of a row; what all of them gave in a turn has to agree. */
+typedef void run(int which, const void *row);
+typedef void agree(const void *row);
+
+/* The least time of each way, in turns. */
+static void alternate(int ways, run *call, agree *compare, const void *row, double *best) {
+    for (int turn = 0; turn < TURNS; turn++) {
+        for (int i = 0; i < ways; i++) {
+            int which = (turn + i) % ways;
+            double start = seconds();
+            call(which, row);
+            double took = seconds() - start;
+            if (turn == 0 || took < best[which])
+                best[which] = took;
+        }
+        compare(row);
+    }
+}
+
+static void print_times(const char *name, int ways, const double *best) {
+    printf("| %s ", name);
+    for (int which = 0; which < ways; which++)
+        printf("| %.2f ms ", 1e3 * best[which]);
+}
+
 typedef result way(table t, bool all);
+
+typedef struct {
+    table t;
+    bool all, ids_too;
+} row;
+static result results[WAYS];
+
+static void run_row(int which, const void *of) {
+    way *const ways[WAYS] = {proved, plain, words, reading};
+    const row *r = of;
+    results[which] = ways[which](r->t, which == READING ? r->ids_too : r->all);
+}
+
+static void agree_row(const void *of) {
+    (void)of;
+    must(results[PROVED].refusal == 0);
+    must(same(results[PROVED], results[PLAIN]) && same(results[PROVED], results[WORDS]));
+}
 
 /* Runs each way in turn and prints the row of least times. */
 static void measure(const char *name, table t, bool all, bool ids_too) {
-    way *const ways[WAYS] = {proved, plain, words, reading};
-    double best[WAYS] = {1e9, 1e9, 1e9, 1e9};
-    result results[WAYS];
-    for (int turn = 0; turn < TURNS; turn++) {
-        for (int i = 0; i < WAYS; i++) {
-            int which = (turn + i) % WAYS;
-            double start = seconds();
-            results[which] = ways[which](t, which == READING ? ids_too : all);
-            double took = seconds() - start;
-            if (took < best[which])
-                best[which] = took;
-        }
-        must(results[PROVED].refusal == 0);
-        must(same(results[PROVED], results[PLAIN]) && same(results[PROVED], results[WORDS]));
-    }
-    printf("| %s ", name);
-    for (int which = 0; which < WAYS; which++)
-        printf("| %.2f ms ", 1e3 * best[which]);
+    const row r = {t, all, ids_too};
+    double best[WAYS];
+    alternate(WAYS, run_row, agree_row, &r, best);
+    print_times(name, WAYS, best);
     printf("| %.2f | %.2f | %.2f |\n", best[PROVED] / best[PLAIN], best[PROVED] / best[WORDS], best[PROVED] / best[READING]);
+}
+
+/* A conversion, a take of a reply that says nothing, and what they are set against. */
+enum { CONVERT, TAKE, ONE_PASS, ONE_PASS_WORDS, CHECK, TWO_PASSES, SESSION_WAYS };
+
+/* A table with its marks. */
+typedef struct {
+    table t;
+    uint8_t *marks;
+    size_t marked;
+} kept;
+
+/* The number of the refusal, or 0 and the label. */
+typedef struct {
+    uint64_t refusal;
+    recon_label label;
+} labelled;
+static labelled labels[SESSION_WAYS];
+static recon_session session;
+
+static void run_session(int which, const void *of) {
+    const kept *k = of;
+    const uint8_t says_nothing[1] = {0x61};
+    const recon_unlabelled_session without = {k->marked, 0, false};
+    labelled *l = &labels[which];
+    recon_session_answer a;
+    l->label.count = ITEMS;
+    switch (which) {
+    case CONVERT:
+        a = recon_session_convert(k->t.times, ITEMS, k->t.ids, k->t.id_bytes, without, k->marks, ITEMS, NULL, 0);
+        *l = (labelled){a.refusal, a.session.label};
+        break;
+    case TAKE:
+        a = recon_take(k->t.times, ITEMS, k->t.ids, k->t.id_bytes, 16, 64, says_nothing, 1, session, k->marks, ITEMS, NULL, 0, NULL, 0);
+        *l = (labelled){a.refusal, a.session.label};
+        break;
+    case ONE_PASS:
+        l->refusal = plain_check_and_add(k->t.times, ITEMS, k->t.ids, k->t.id_bytes, k->marks, ITEMS, k->marked, l->label.sum);
+        break;
+    case ONE_PASS_WORDS:
+        l->refusal = plain_check_and_add_words(k->t.times, ITEMS, k->t.ids, k->t.id_bytes, k->marks, ITEMS, k->marked, l->label.sum);
+        break;
+    default:
+        l->refusal = proved(k->t, which == TWO_PASSES).refusal;
+    }
+}
+
+static int same_label(labelled a, labelled b) {
+    return a.refusal == b.refusal && (a.refusal != 0 || memcmp(&a.label, &b.label, sizeof a.label) == 0);
+}
+
+static void agree_session(const void *of) {
+    (void)of;
+    for (int which = 0; which < SESSION_WAYS; which++)
+        must(labels[which].refusal == 0 && (which >= CHECK || same_label(labels[which], labels[CONVERT])));
+}
+
+static void measure_session(const char *name, kept k) {
+    double best[SESSION_WAYS];
+    const recon_unlabelled_session without = {k.marked, 0, false};
+    session = recon_session_convert(k.t.times, ITEMS, k.t.ids, k.t.id_bytes, without, k.marks, ITEMS, NULL, 0).session;
+    alternate(SESSION_WAYS, run_session, agree_session, &k, best);
+    print_times(name, SESSION_WAYS, best);
+    for (int which = ONE_PASS; which < SESSION_WAYS; which++)
+        printf("| %.2f ", best[CONVERT] / best[which]);
+    printf("|\n");
+}
+
+/* A conversion and plain C must refuse by this number. */
+static void must_refuse(uint64_t refusal, kept k) {
+    for (int which = CONVERT; which <= ONE_PASS_WORDS; which++)
+        if (which != TAKE) {
+            run_session(which, &k);
+            must(labels[which].refusal == refusal);
+        }
 }
 
 /* All three must refuse by this number, or by none if it is 0, and give the same fingerprint. */
@@ -112,8 +218,9 @@ static void put(uint8_t *p, int bytes, uint64_t value) {
 
 int main(void) {
     uint64_t *different = malloc(8 * ITEMS), *equal = malloc(8 * ITEMS);
-    uint8_t *ids = malloc(ID_BYTES), *shared = malloc(ID_BYTES);
+    uint8_t *ids = malloc(ID_BYTES), *shared = malloc(ID_BYTES), *marks = malloc(ITEMS);
     uint64_t x = 88172645463325252u;
+    size_t marked = 0;
     for (size_t i = 0; i < ITEMS; i++) {
         for (size_t j = 0; j < 32; j++) {
             x ^= x << 13;
@@ -126,6 +233,8 @@ int main(void) {
         put(shared + 32 * i + 24, 8, (uint64_t)i << 40 | x >> 24);
         different[i] = 1700000000 + 1000 * i + x % 1000;
         equal[i] = 1700000000;
+        marks[i] = x >> 20 & 1;
+        marked += marks[i];
     }
     table by_time = {different, ids, ID_BYTES}, by_start = {equal, ids, ID_BYTES}, by_end = {equal, shared, ID_BYTES};
     printf("| 1,048,576 items | proved | plain C | plain C, words | reading once | proved / plain C | proved / words | proved / reading |\n"
@@ -137,15 +246,30 @@ int main(void) {
     measure("check and label, times equal, ids differ in 4 bytes", by_start, true, true);
     measure("check and label, times equal, ids share 24 bytes", by_end, true, true);
 
-    /* The last item makes the difference. */
+    printf("\n| 1,048,576 items | conversion | take of 61 | plain C, one pass | plain C, words | check | check and label | conversion / plain C | "
+           "conversion / words | conversion / check | conversion / check and label |\n"
+           "|---|---|---|---|---|---|---|---|---|---|---|\n");
+    measure_session("times all different", (kept){by_time, marks, marked});
+    measure_session("times equal, ids differ in 4 bytes", (kept){by_start, marks, marked});
+    measure_session("times equal, ids share 24 bytes", (kept){by_end, marks, marked});
+
+    /* The last item makes the difference, or the last mark. */
     by_time.id_bytes--;
     must_give(1, by_time);
+    must_refuse(1, (kept){by_time, marks, marked});
     by_time.id_bytes++;
     must_give(0, by_time);
+    must_refuse(0, (kept){by_time, marks, marked});
+    must_refuse(4, (kept){by_time, marks, marked + 1});
+    marks[ITEMS - 1] += 2;
+    must_refuse(4, (kept){by_time, marks, marked + 2});
     different[ITEMS - 1] = UINT64_MAX;
     must_give(2, by_time);
+    must_refuse(2, (kept){by_time, marks, marked});
     memcpy(shared + ID_BYTES - 32, shared + ID_BYTES - 64, 32);
     must_give(2, by_end);
+    must_refuse(2, (kept){by_end, marks, marked});
+    free(marks);
     free(different);
     free(equal);
     free(ids);

@@ -1,7 +1,7 @@
 //! The calls of both implementations in one form. A refusal ends the program: no call of a session is refused here.
 
 use crate::cases::{Table, Tables};
-use recon::{Cut, Sent, Session};
+use recon::{Cut, Label, Sent, Session};
 
 /// The cuts, each at both ends.
 pub const CUTS: [Cut; 2] = [Cut { parts: 16, limit: 64 }, Cut { parts: 16, limit: 4096 }];
@@ -84,10 +84,16 @@ fn lent(table: &Table) -> recon::Table<'_> {
 }
 
 fn common(sent: reference::Sent) -> Sent {
-    let reference::Session { marked, needed, done } = sent.session;
+    let reference::Sent { length, session } = sent;
+    let reference::Label { sum, count } = session.label;
     Sent {
-        length: sent.length,
-        session: Session { marked, needed, done },
+        length,
+        session: Session {
+            marked: session.marked,
+            needed: session.needed,
+            done: session.done,
+            label: Label { sum, count },
+        },
     }
 }
 
@@ -151,6 +157,11 @@ pub fn try_take(
 
 /// The session as the reference has it.
 fn plain(session: Session) -> reference::Session {
-    let Session { marked, needed, done } = session;
-    reference::Session { marked, needed, done }
+    let Label { sum, count } = session.label;
+    reference::Session {
+        marked: session.marked,
+        needed: session.needed,
+        done: session.done,
+        label: reference::Label { sum, count },
+    }
 }

@@ -7,7 +7,7 @@ use crate::layout::{aligned, duration, grouped, quotient, row};
 use crate::measure::{alternate, Effort};
 use crate::plain_fold;
 use crate::results::Time;
-use recon::{Committed, Inquiry, Session, Table, ID_BYTES, MAX_ITEMS};
+use recon::{Committed, Inquiry, Label, Session, Table, ID_BYTES, MAX_ITEMS};
 use std::time::Instant;
 
 const BATCHES: [usize; 4] = [1, 1_000, 32_768, 524_288];
@@ -55,6 +55,7 @@ impl Case {
                 marked: items,
                 needed,
                 done: true,
+                label: Label::default(),
             },
             batch_times: chosen.iter().map(|&at| theirs.times[at]).collect(),
             batch_ids,

@@ -228,26 +228,9 @@ impl Calls for Library {
 
     fn run(&self, call: Call, lent: &mut Lent<'_>) -> Outcome {
         assert_eq!(lent.odd, Odd::ToLast, "the library has no former rule");
-        let result = safe_call(call, lent);
-        if result.is_ok() && call != Call::Convert {
-            return result.map_err(|_| unreachable!());
-        }
-        // The safe crate leaves out what stands beside a refusal, and the length of a conversion. Such a call has changed
-        // nothing, so the C call must answer the same again.
-        let again = raw::run(call, lent);
-        let number = result.err().map_or(0, Refusal::number);
-        assert_eq!(again.refusal, number, "the C call refuses as the safe call does");
-        assert_eq!(again.length, 0, "the length beside a refusal, or of a conversion");
-        let session = again.session;
-        match result {
-            Ok(sent) => {
-                assert_eq!(session, sent.session, "the C call answers as the safe call does");
-                Ok(sent)
-            }
-            Err(_) => Err(Refused {
-                number: small(number),
-                session,
-            }),
+        match safe_call(call, lent) {
+            Ok(sent) if call != Call::Convert => Ok(sent),
+            result => by_c_too(call, lent, result),
         }
     }
 
@@ -300,6 +283,26 @@ impl Calls for Library {
             let number = small(number);
             FoldRefused { number, beside }
         })
+    }
+}
+
+/// Makes the C call of a call that has changed nothing, which must answer the same: the safe crate leaves out what stands
+/// beside a refusal, and the length of a conversion.
+fn by_c_too(call: Call, lent: &mut Lent<'_>, result: Result<Sent, Refusal>) -> Outcome {
+    let again = raw::run(call, lent);
+    let number = result.err().map_or(0, Refusal::number);
+    assert_eq!(again.refusal, number, "the C call refuses as the safe call does");
+    assert_eq!(again.length, 0, "the length beside a refusal, or of a conversion");
+    let session = again.session;
+    match result {
+        Ok(sent) => {
+            assert_eq!(session, sent.session, "the C call answers as the safe call does");
+            Ok(sent)
+        }
+        Err(_) => Err(Refused {
+            number: small(number),
+            session,
+        }),
     }
 }
 

@@ -1,6 +1,6 @@
 //! Tables, cuts and messages, random and structured.
 use crate::rng::Rng;
-use recon::{Cut, Table};
+use recon::{Cut, Label, Table};
 use reference::{Bound, Payload, Range};
 use std::collections::BTreeSet;
 
@@ -280,6 +280,13 @@ pub fn two_cuts(rng: &mut Rng, small: usize) -> [Cut; 2] {
         [small_cut(rng), small_cut(rng)]
     } else {
         [cut(rng), cut(rng)]
+    }
+}
+
+pub fn any_label(rng: &mut Rng) -> Label {
+    Label {
+        sum: [0; 4].map(|_: u64| rng.word()),
+        count: rng.word(),
     }
 }
 

@@ -4,9 +4,10 @@ use crate::changes::{Change, CHANGES};
 use crate::compare::Check;
 use crate::exchange::Exchange;
 use crate::faults::{faults_of, AnyFault, Draft};
+use crate::generate::any_label;
 use crate::input::Input;
 use crate::kinds::{expect_number, Case};
-use recon::{Label, Session};
+use recon::Session;
 
 /// What holds wherever a session stands, open or done.
 pub fn at_place(case: &mut Case<'_, '_>, exchange: &mut Exchange<'_>) -> Check {
@@ -23,15 +24,22 @@ pub fn at_place(case: &mut Case<'_, '_>, exchange: &mut Exchange<'_>) -> Check {
     let needed = [state.needed, &case.rng.bytes(more)].concat();
     let take = Draft::of(&state.with_needed(&needed).with_out(&out));
     let change = &CHANGES[case.rng.below(CHANGES.len())];
-    if let Some(changed) = change.of(&mut case.rng, &take) {
-        with_other_table(case, &take, change, &changed).map_err(|text| format!("{}: {}", change.name, text))?;
+    with_change(case, &take, change)
+}
+
+/// Calls with the table of a take changed in one way, unless it cannot be.
+pub fn with_change(case: &mut Case<'_, '_>, take: &Draft, change: &Change) -> Check {
+    match change.of(&mut case.rng, take) {
+        None => Ok(()),
+        Some(changed) => {
+            with_other_table(case, take, change, &changed).map_err(|text| format!("{}: {}", change.name, text))
+        }
     }
-    Ok(())
 }
 
 /// The conversion of a session that has lost its label, with any whole ids behind its list, gives the session back.
 pub fn gives_back(case: &mut Case<'_, '_>, state: &Input<'_>) -> Check<Session> {
-    let (label, behind) = (any_label(case), 32 * case.rng.below(3));
+    let (label, behind) = (any_label(&mut case.rng), 32 * case.rng.below(3));
     let needed = [state.needed, &case.rng.bytes(behind)].concat();
     let lost = Session { label, ..state.session };
     let conversion = state.of(Call::Convert).with_state(lost, state.marks, &needed);
@@ -47,13 +55,6 @@ pub fn gives_back(case: &mut Case<'_, '_>, state: &Input<'_>) -> Check<Session> 
     }
 }
 
-fn any_label(case: &mut Case<'_, '_>) -> Label {
-    Label {
-        sum: [0; 4].map(|_: u64| case.rng.word()),
-        count: case.rng.word(),
-    }
-}
-
 /// A conversion with one fault or two; what it is refused by, if at all, both implementations have to agree about.
 fn damaged(case: &mut Case<'_, '_>, state: &Input<'_>) -> Check {
     let mut draft = Draft::of(&state.of(Call::Convert));
@@ -66,7 +67,7 @@ fn damaged(case: &mut Case<'_, '_>, state: &Input<'_>) -> Check {
 
 /// Takes with a changed table: with marks that fit it, and with those that the session has. And the session converted
 /// with the changed table, which the table of before does not fit any more.
-pub fn with_other_table(case: &mut Case<'_, '_>, take: &Draft, change: &Change, changed: &Draft) -> Check {
+fn with_other_table(case: &mut Case<'_, '_>, take: &Draft, change: &Change, changed: &Draft) -> Check {
     judge(case, change, changed)?;
     if changed.marks.len() != take.marks.len() {
         let mut unfit = changed.clone();
@@ -95,7 +96,10 @@ fn judge(case: &mut Case<'_, '_>, change: &Change, take: &Draft) -> Check {
     if done {
         return expect_number(number, 5);
     }
-    // The reply 61 ends a session.
-    let is_right = matches!(number, 6..=12) && take.message != [0x61] || number == 0;
-    expect_number(u8::from(!is_right), 0)
+    match number {
+        0 => Ok(()),
+        // The reply 61 ends a session; others may be damaged, or have no room.
+        6..=12 if take.message != [0x61] => Ok(()),
+        _ => Err(format!("the label is the same, and both say {}", number)),
+    }
 }

@@ -5,10 +5,10 @@ use super::{Case, Group};
 use crate::compare::Check;
 use crate::faults::with_first;
 use crate::fold_faults::{fold_faults, FoldDraft};
-use crate::generate::{items, Id, Item, OwnedTable, Shape, LAST_TIME, SHAPES};
+use crate::generate::{any_label, items, Id, Item, OwnedTable, Shape, LAST_TIME, SHAPES};
 use crate::rng::Rng;
 use crate::story;
-use recon::{Label, Session};
+use recon::Session;
 use std::collections::BTreeSet;
 
 const GROUPS: [Group; 6] = [
@@ -52,10 +52,7 @@ fn done(rng: &mut Rng, needed: usize) -> Session {
         marked: rng.pick(&[0, 3, usize::MAX]),
         needed,
         done: true,
-        label: Label {
-            sum: [rng.word(), rng.word(), rng.word(), rng.word()],
-            count: rng.word(),
-        },
+        label: any_label(rng),
     }
 }
 

@@ -4,13 +4,13 @@
 use super::refusals::{lawful, with_each};
 use super::{expect_number, limits, Case, Group};
 use crate::calls::Call;
-use crate::changes::{Change, CHANGES};
+use crate::changes::CHANGES;
 use crate::compare::{same_bytes, Check};
 use crate::exchange::{Ends, Exchange};
 use crate::faults::{faults_of, place, AnyFault, Draft};
 use crate::generate::{items, lawful_limit, two_cuts, Id, OwnedTable, TwoTables, RELATIONS, SHAPES};
 use crate::input::Input;
-use crate::kept::{at_place, gives_back, with_other_table};
+use crate::kept::{at_place, gives_back, with_change};
 use crate::label::new_session;
 use crate::rng::Rng;
 use crate::story;
@@ -74,19 +74,7 @@ fn sizes(case: &mut Case<'_, '_>, number: usize) -> Check {
     case.expect(&state.of(Call::Open).with_out(&out), 0)?;
     let take = Draft::of(&state.with_message(&[0x61]));
     case.expect(&take.input(), if session.done { 5 } else { 0 })?;
-    for change in &CHANGES {
-        each_change(case, &take, change)?;
-    }
-    Ok(())
-}
-
-fn each_change(case: &mut Case<'_, '_>, take: &Draft, change: &Change) -> Check {
-    match change.of(&mut case.rng, take) {
-        None => Ok(()),
-        Some(changed) => {
-            with_other_table(case, take, change, &changed).map_err(|text| format!("{}: {}", change.name, text))
-        }
-    }
+    CHANGES.iter().try_for_each(|change| with_change(case, &take, change))
 }
 
 fn any_state(rng: &mut Rng, table: &OwnedTable) -> (Session, Vec<u8>, Vec<u8>) {

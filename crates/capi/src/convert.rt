@@ -11,7 +11,7 @@ use session::convert::{Unlabelled, convert_session};
 
 // A session as it was before sessions had a label.
 #[repr(C)]
-#[derive(Drop)]
+#[derive(Clone, Copy)]
 pub struct UnlabelledSession {
     pub marked: usize,
     pub needed: usize,

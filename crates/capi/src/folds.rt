@@ -11,7 +11,7 @@ use folding::{Inquiry, Outcome, commit, inquire};
 
 // The number of the refusal, 0 for none; how many items would enter, and how many ids would stay needed.
 #[repr(C)]
-#[derive(Drop)]
+#[derive(Clone, Copy)]
 pub struct InquiryAnswer {
     pub refusal: u64,
     pub entering: usize,
@@ -20,7 +20,7 @@ pub struct InquiryAnswer {
 
 // The number of the refusal, 0 for none; how many items the table has, and the session afterwards.
 #[repr(C)]
-#[derive(Drop)]
+#[derive(Clone, Copy)]
 pub struct CommitAnswer {
     pub refusal: u64,
     pub items: usize,

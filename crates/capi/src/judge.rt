@@ -9,7 +9,7 @@ use judging::{Verdict, judge_reply};
 
 // The number of the refusal, 0 for none, and whether the reply is approved.
 #[repr(C)]
-#[derive(Drop)]
+#[derive(Clone, Copy)]
 pub struct Judgement {
     pub refusal: u64,
     pub approved: bool,

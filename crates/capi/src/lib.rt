@@ -1,4 +1,6 @@
 // The calls for C and Rust, declared for C in include/recon.h: those of `session` on numbers and slices, with the same equations as their contracts.
+#![tactic(auto)]
+
 ghost use Rattle.std.specs.Prelude.{◌≡◌, length};
 ghost use Rattle.sha256.specs.Fips180.{digest};
 ghost use Rattle.table.specs.Answer.{bytes_in};
@@ -27,7 +29,7 @@ pub mod within;
 
 // The sum is four words, the least significant first.
 #[repr(C)]
-#[derive(Drop)]
+#[derive(Clone, Copy)]
 pub struct Label {
     pub sum: [u64; 4],
     pub count: u64,
@@ -35,7 +37,7 @@ pub struct Label {
 
 // How many marks are 1, how many ids are needed, whether the session is done, and the label of the table at its opening.
 #[repr(C)]
-#[derive(Drop)]
+#[derive(Clone, Copy)]
 pub struct Session {
     pub marked: usize,
     pub needed: usize,
@@ -45,7 +47,7 @@ pub struct Session {
 
 // The number of the refusal, 0 for none, and the length of the message that was written.
 #[repr(C)]
-#[derive(Drop)]
+#[derive(Clone, Copy)]
 pub struct Answer {
     pub refusal: u64,
     pub length: usize,
@@ -53,7 +55,7 @@ pub struct Answer {
 
 // The same, and the session afterwards.
 #[repr(C)]
-#[derive(Drop)]
+#[derive(Clone, Copy)]
 pub struct SessionAnswer {
     pub refusal: u64,
     pub length: usize,

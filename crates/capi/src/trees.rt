@@ -15,7 +15,7 @@ use table::Checked;
 
 // The number of the refusal, 0 for none, the label of the run, and how many labels were visited.
 #[repr(C)]
-#[derive(Drop)]
+#[derive(Clone, Copy)]
 pub struct TreeAnswer {
     pub refusal: u64,
     pub label: Label,

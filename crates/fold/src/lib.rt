@@ -1,1 +1,3 @@
 // Batches folded into the opener's table: definitions and theorems alone.
+#![tactic(auto)]
+

@@ -1,6 +1,8 @@
 // The calls that fold a batch into the opener's table once a session is done: items enter the table, and their ids leave the needed list. Neither has a `requires`: what is
 // wrong with what it is lent, it answers with the number of the refusal, and then nothing has changed. The count of the marks and the label are not handed
 // over, and stay what they are.
+#![tactic(auto)]
+
 ghost use Rattle.std.specs.Prelude.{ℕ, ◌+◌, ◌*◌, ◌≤◌, ◌<◌, ◌≡◌, true, false, map, length};
 ghost use Rattle.message.specs.Bound.{big_endian};
 ghost use Rattle.message.specs.Code.{ids_in};
@@ -24,7 +26,7 @@ use table::{Checked, Refusal};
 mod check;
 
 // What a commit would do.
-#[derive(Drop)]
+#[derive(Clone, Copy)]
 pub enum Inquiry {
     // so many items would enter, and so many ids would stay needed
     Counted { entering: usize, staying: usize },
@@ -32,7 +34,7 @@ pub enum Inquiry {
 }
 
 // What a commit did.
-#[derive(Drop)]
+#[derive(Clone, Copy)]
 pub enum Outcome {
     // the table has so many items now, and so many ids are needed
     Merged { count: usize, needed: usize },

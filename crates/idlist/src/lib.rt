@@ -1,4 +1,6 @@
 // Ids in byte strings, 32 bytes each. For our own crates.
+#![tactic(auto)]
+
 ghost use Rattle.std.specs.Prelude.{ℕ, ◌+◌, ◌*◌, ◌≤◌, ◌<◌, ◌≡◌, true, false, ltb, eqb, length, take, drop};
 ghost use Rattle.message.specs.Bound.{big_endian};
 ghost use Rattle.message.specs.Code.{ids_in};

@@ -1,1 +1,3 @@
 // A judge of replies: definitions and theorems alone.
+#![tactic(auto)]
+

@@ -1,4 +1,6 @@
 // A judge of replies: whether a reply is a lawful one to a query, of a responder whose table is at hand, however it cuts.
+#![tactic(auto)]
+
 ghost use Rattle.std.specs.Prelude.{◌≡◌};
 ghost use Rattle.message.specs.Message.{read_message};
 ghost use Rattle.table.specs.Table.{items};
@@ -18,7 +20,7 @@ mod merge;
 mod sets;
 
 // What the judge says.
-#[derive(Drop)]
+#[derive(Clone, Copy)]
 pub enum Verdict {
     Yes,
     No,

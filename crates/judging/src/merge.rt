@@ -19,14 +19,14 @@ use message::{Bound, Payload, below};
 use walk::Walk;
 
 // A bound with its prefix beside it.
-#[derive(Drop)]
+#[derive(Clone, Copy)]
 pub(crate) struct Edge {
     pub bound: Bound,
     pub prefix: [u8; 32],
 }
 
 // What a range of the query asks of the reply: skips, a division of it, or ids.
-#[derive(Drop)]
+#[derive(Clone, Copy)]
 pub(crate) enum Asked {
     Skip,
     Division,
@@ -34,7 +34,7 @@ pub(crate) enum Asked {
 }
 
 // Of the ranges met so far: whether each was what is asked for, how many there are (2 for more), and whether all list ids.
-#[derive(Drop)]
+#[derive(Clone, Copy)]
 pub(crate) struct Sofar {
     pub fits: bool,
     pub met: usize,
@@ -42,7 +42,7 @@ pub(crate) struct Sofar {
 }
 
 // Whether a range is answered, and where the ranges for the next one begin.
-#[derive(Drop)]
+#[derive(Clone, Copy)]
 pub(crate) struct Met {
     pub fits: bool,
     pub next: Walk,

@@ -1,4 +1,6 @@
 // Labels of ranges of items: the sum of their ids modulo 2^256 and how many there are. And the fingerprint of a label.
+#![tactic(auto)]
+
 ghost use Rattle.std.specs.Prelude.{◌≡◌, ◌≤◌, [], ◌∷◌, ◌++◌, length, take, drop};
 ghost use Rattle.label.specs.Label as spec;
 ghost use Rattle.label.specs.Code.{label_in, whole_ids, label_from, label_into};
@@ -13,7 +15,7 @@ use writer::varint::{width, write_varint};
 mod word;
 
 // The sum is four words, the least significant first.
-#[derive(Drop)]
+#[derive(Clone, Copy)]
 pub struct Label {
     pub sum: [u64; 4],
     pub count: u64,

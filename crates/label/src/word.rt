@@ -7,7 +7,7 @@ ghost use Rattle.label.specs.Code.{sum_in};
 use std::num::wrapping_add_u64;
 
 // A sum of two words and a carry: its low word, and the carry out of it.
-#[derive(Drop)]
+#[derive(Clone, Copy)]
 pub(crate) struct Carried {
     pub low: u64,
     pub carry: u64,

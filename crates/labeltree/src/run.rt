@@ -12,14 +12,14 @@ use label::Label;
 use table::{Checked, Refusal};
 
 // The label of some places, and how many labels were visited for it.
-#[derive(Drop)]
+#[derive(Clone, Copy)]
 pub struct Found {
     pub label: Label,
     pub visited: u64,
 }
 
 // The label of a run; the empty label and 0, where the check refuses.
-#[derive(Drop)]
+#[derive(Clone, Copy)]
 pub struct RunLabel {
     pub checked: Checked,
     pub found: Found,

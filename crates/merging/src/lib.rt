@@ -1,4 +1,6 @@
 // What a batch of items does to a table: the items that both have, and the merge. For our own crates.
+#![tactic(auto)]
+
 ghost use Rattle.std.specs.Prelude.{◌+◌, ◌*◌, ◌≤◌, ◌<◌, ◌≡◌, ltb, length};
 ghost use Rattle.table.specs.Table.{key_of};
 ghost use Rattle.table.specs.Code.{lent};

@@ -132,9 +132,11 @@ enough (suc f) (suc g) lower (b ∷ m) by h k =
     rw (enough f g (upper r) rest less.1 (omega arith) (omega arith))
 
 -- where bytes are left, reading goes on
-goes_on : {A : Type 0} (more : Reader (List A)) (m : List ℕ) → 1 ≤ length m → until_end more m ≡ more m
-goes_on more [] h = absurd (omega arith)
-goes_on more (b ∷ m) h = refl
+one_more : (f : ℕ) (lower : Bound) (m : List ℕ) (r : Range) (rest : List ℕ) (rs : List Range) → 1 ≤ length m → read_range lower m ≡ read r rest
+    → read_ranges f (upper r) rest ≡ read rs [] → read_ranges (suc f) lower m ≡ read (r ∷ rs) []
+unfolding read_ranges
+one_more f lower [] r rest rs h e g = absurd (omega arith)
+one_more f lower (b ∷ m) r rest rs h e g = rw (e, g) refl
 
 pub ranges-there : (f : ℕ) (lower : Bound) (rs : List Range) → Rising lower rs → length (spell_ranges lower rs) ≤ f → read_ranges f lower (spell_ranges lower rs) ≡ read rs []
 unfolding read_ranges spell_ranges
@@ -145,8 +147,8 @@ ranges-there zero lower (range u p ∷ rs) h l =
 ranges-there (suc f) lower (range u p ∷ rs) h l =
     let one : 1 ≤ length (spell_range lower (range u p)) = takes lower (range u p) (h.0, h.1, h.2) in
     let size = length-append (spell_range lower (range u p)) (spell_ranges u rs) in
-    goes_on _ (spell_range lower (range u p) ++ spell_ranges u rs) (omega arith)
-    ∙ rw ((exact_range lower).reads (range u p) (spell_ranges u rs) (h.0, h.1, h.2), ranges-there f u rs h.3 (omega arith))
+    one_more f lower (spell_range lower (range u p) ++ spell_ranges u rs) (range u p) (spell_ranges u rs) rs (omega arith)
+    ((exact_range lower).reads (range u p) (spell_ranges u rs) (h.0, h.1, h.2)) (ranges-there f u rs h.3 (omega arith))
 
 rising : (lower : Bound) (r : Range) (rs : List Range) → LawfulRange lower r → Rising (upper r) rs → Rising lower (r ∷ rs)
 rising lower (range u p) rs g h = (g.0, g.1, g.2, h)

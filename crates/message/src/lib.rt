@@ -1,11 +1,13 @@
 // The message layer, first crate: the definitions stand in specs/, the laws of the format in proofs/, and here the forms in which code
 // holds what a message says. The crates `reader` and `writer` are built on it.
+#![tactic(auto)]
+
 ghost use Rattle.std.specs.Prelude.{◌≡◌, [], ltb, get_or};
 ghost use Rattle.message.specs.Bound as spec;
 ghost use Rattle.message.specs.Code.{number_of, bound_of};
 
 // Why a call of the message layer is refused. `number_of` in specs/Code.antt gives the number of each kind.
-#[derive(Drop)]
+#[derive(Clone, Copy)]
 pub enum Refusal {
     // 6: the message is empty or its first byte is not 61
     WrongVersion,
@@ -38,14 +40,14 @@ impl Refusal {
 }
 
 // A bound: infinity, or a time and the length of a prefix, whose bytes are kept beside it.
-#[derive(Drop)]
+#[derive(Clone, Copy)]
 pub enum Bound {
     Infinity,
     At { time: u64, len: usize },
 }
 
 // A payload. The 16 bytes of a fingerprint, or the ids of 32 bytes each, begin at a place of a slice that is handed along.
-#[derive(Drop)]
+#[derive(Clone, Copy)]
 pub enum Payload {
     Skip,
     Fingerprint { at: usize },
@@ -53,7 +55,7 @@ pub enum Payload {
 }
 
 // A range: its upper bound with the bytes of its prefix beside it, and its payload.
-#[derive(Drop)]
+#[derive(Clone, Copy)]
 pub struct Range {
     pub bound: Bound,
     pub prefix: [u8; 32],

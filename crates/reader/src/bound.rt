@@ -9,14 +9,14 @@ use crate::varint::{Cursor, VarintRead};
 use message::{Bound, Refusal, below};
 
 // The place and the length of a prefix.
-#[derive(Drop)]
+#[derive(Clone, Copy)]
 pub(crate) enum PrefixRead {
     Prefix { at: usize, len: usize, next: Cursor },
     Refused { refusal: Refusal },
 }
 
 // A bound: infinity, or a time and the place and length of a prefix.
-#[derive(Drop)]
+#[derive(Clone, Copy)]
 pub enum BoundRead {
     Infinity {
         next: Cursor,

@@ -7,7 +7,7 @@ use crate::range::{Found, RangeCursor};
 use message::Refusal;
 
 // How many ranges a message has, or the first fault met.
-#[derive(Drop)]
+#[derive(Clone, Copy)]
 pub enum MessageRead {
     Ranges { count: usize },
     Refused { refusal: Refusal },

@@ -1,4 +1,6 @@
 // The message layer, second crate: the reader. A cursor steps through a message; each read takes it and gives it back moved.
+#![tactic(auto)]
+
 pub mod bound;
 pub mod check;
 pub mod listed;

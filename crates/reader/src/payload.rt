@@ -6,7 +6,7 @@ ghost use Rattle.reader.specs.Answers.{payload_read, PayloadPlaced};
 use crate::varint::{Cursor, VarintRead};
 use message::{Payload, Refusal};
 
-#[derive(Drop)]
+#[derive(Clone, Copy)]
 pub enum PayloadRead {
     Payload { payload: Payload, next: Cursor },
     Refused { refusal: Refusal },

@@ -12,14 +12,14 @@ use crate::varint::Cursor;
 use message::{Bound, Payload, Range, Refusal};
 
 // A place in a message, and the bound before it with its prefix beside it.
-#[derive(Drop)]
+#[derive(Clone, Copy)]
 pub struct RangeCursor {
     pub at: usize,
     pub lower: Bound,
     pub prefix: [u8; 32],
 }
 
-#[derive(Drop)]
+#[derive(Clone, Copy)]
 pub enum Found {
     Range,
     Refused { refusal: Refusal },
@@ -27,7 +27,7 @@ pub enum Found {
 
 // What reading a range finds, the range, and the cursor behind it. Where it is refused the range is a skip to infinity and the cursor has
 // not moved.
-#[derive(Drop)]
+#[derive(Clone, Copy)]
 pub struct RangeRead {
     pub found: Found,
     pub range: Range,

@@ -6,12 +6,12 @@ ghost use Rattle.reader.specs.Answers.{varint_read, VarintPlaced};
 use message::Refusal;
 
 // A place in a message.
-#[derive(Drop)]
+#[derive(Clone, Copy)]
 pub struct Cursor {
     pub at: usize,
 }
 
-#[derive(Drop)]
+#[derive(Clone, Copy)]
 pub enum VarintRead {
     Value { value: u64, next: Cursor },
     Refused { refusal: Refusal },

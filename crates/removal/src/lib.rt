@@ -1,5 +1,7 @@
 // Ids taken out of a list that rises, as the needed list does. The ids to be taken out stand in any order: each is searched in the list, and marked there. With d ids in
 // the list, m to be taken out and h hints: m × log d comparisons, and m × (d / 8 h + 1) words looked at.
+#![tactic(auto)]
+
 ghost use Rattle.std.specs.Prelude.{◌+◌, ◌*◌, ◌≤◌, ◌<◌, ◌≡◌, true, length, take, drop};
 ghost use mathlib.Core.List.{◌++◌, map, flatten};
 ghost use Rattle.message.specs.Bound.{big_endian};
@@ -16,7 +18,7 @@ mod hints;
 mod marking;
 
 // How many of the ids to be taken out are ids of the list, and how many ids the list has without them.
-#[derive(Drop)]
+#[derive(Clone, Copy)]
 pub struct Tally {
     pub found: usize,
     pub left: usize,

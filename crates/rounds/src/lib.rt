@@ -1,1 +1,3 @@
 // A session on bytes, computed by the checker: definitions and proofs alone.
+#![tactic(auto)]
+

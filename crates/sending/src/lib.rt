@@ -1,5 +1,7 @@
 // The messages that either end sends, within a byte limit or without one. A message is measured first, so that a call that is refused has changed no byte. For our
 // own crates: message, table, cut and limit are checked before.
+#![tactic(auto)]
+
 use table::Refusal;
 
 pub mod put;
@@ -7,7 +9,7 @@ pub mod send;
 pub mod stop;
 
 // The opener's first query; the responder's answer and the opener's next query, which are made of the other's message.
-#[derive(Drop)]
+#[derive(Clone, Copy)]
 pub enum Kind {
     FirstQuery,
     Answer,
@@ -15,7 +17,7 @@ pub enum Kind {
 }
 
 // What a call answers: the length of the message that it wrote, or why it is refused.
-#[derive(Drop)]
+#[derive(Clone, Copy)]
 pub enum Outcome {
     Written { length: usize },
     Refused { refusal: Refusal },

@@ -19,7 +19,7 @@ use message::Bound;
 use writer::write::{Pass, Write, Writer};
 
 // Whether a message fits, and its length if it does.
-#[derive(Drop)]
+#[derive(Clone, Copy)]
 pub struct Measured {
     pub fits: bool,
     pub length: usize,

@@ -12,7 +12,7 @@ use table::{Checked, Refusal};
 use tablelabel::check_and_label;
 
 // A session without a label: how many marks are 1, how many ids are needed, and whether it is done.
-#[derive(Drop)]
+#[derive(Clone, Copy)]
 pub struct Unlabelled {
     pub marked: usize,
     pub needed: usize,

@@ -76,7 +76,7 @@ const CONSTANTS: [u32; 64] = [
 ];
 
 // A hash value, or the eight working variables.
-#[derive(Drop)]
+#[derive(Clone, Copy)]
 pub struct State {
     pub a: u32,
     pub b: u32,

@@ -1,4 +1,6 @@
 // SHA-256 of a byte string, as FIPS 180-4 has it. The one function that a user calls is `digest`.
+#![tactic(auto)]
+
 ghost use Rattle.std.specs.Prelude.{◌≡◌, ◌+◌, ◌-◌, ◌/◌, ◌<◌, ◌≤◌, ◌∷◌, ◌++◌, length, take, drop, replicate};
 ghost use Rattle.sha256.specs.Fips180 as fips;
 ghost use Rattle.sha256.specs.Private.{value_of, rest, with_word};

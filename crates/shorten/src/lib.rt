@@ -1,4 +1,6 @@
 // What a byte limit keeps, handed to the writer. For our own crates: tables are checked before.
+#![tactic(auto)]
+
 ghost use Rattle.std.specs.Prelude.{◌≡◌, false, List, [], ◌∷◌, ◌+◌, ◌-◌, ◌^◌, ◌≤◌, ◌<◌, leb, length, replicate};
 ghost use Rattle.message.specs.Meaning.{write_message};
 ghost use Rattle.message.specs.Message as M;
@@ -28,7 +30,7 @@ use writer::varint::Written;
 use writer::write::{Pass, Write, Writer};
 
 // The byte limit of a call, if it was given one.
-#[derive(Drop)]
+#[derive(Clone, Copy)]
 pub enum Limit {
     Unlimited,
     Bytes { most: usize },
@@ -36,7 +38,7 @@ pub enum Limit {
 
 // Where handing ranges over stopped: the writer; the place in the table of the last bound that is written, where a skip waits; and the span of
 // the range that did not fit, if it lists the own ids there.
-#[derive(Drop)]
+#[derive(Clone, Copy)]
 pub struct Stop {
     pub writer: Writer,
     pub kept: usize,
@@ -45,7 +47,7 @@ pub struct Stop {
 }
 
 // How a message is closed: the writer, how many ids of the span come first, and the place from which the last fingerprint is.
-#[derive(Drop)]
+#[derive(Clone, Copy)]
 pub struct Closing {
     pub writer: Writer,
     pub span: Span,

@@ -1,5 +1,7 @@
 // Reads a message from standard input and prints what `text::show::show` writes: a line for each range, the line of a refusal, or `too long`.
 // Whoever starts it by hand on a terminal is told so first, on standard error.
+#![tactic(auto)]
+
 use libc::{STDERR_FILENO, STDIN_FILENO, STDOUT_FILENO};
 use text::show::{ROOM, show};
 

@@ -1,5 +1,7 @@
 // Tables of items, lent as a list of times and a byte string of ids: their check, and the place of a bound in them.
 // The functions with a `requires` are for our own crates, which check a table before they use it.
+#![tactic(auto)]
+
 ghost use Rattle.std.specs.Prelude.{◌≡◌};
 ghost use Rattle.message.specs.Code as M;
 ghost use Rattle.table.specs.Code.{number_of};
@@ -9,7 +11,7 @@ pub mod compare;
 pub mod search;
 
 // Why a call is refused. `number_of` in specs/Code.antt gives the number of each kind.
-#[derive(Drop)]
+#[derive(Clone, Copy)]
 pub enum Refusal {
     // 1: the id bytes are not 32 for each time, or there are too many items
     TableSize,
@@ -92,7 +94,7 @@ impl Refusal {
 }
 
 // What a check answers.
-#[derive(Drop)]
+#[derive(Clone, Copy)]
 pub enum Checked {
     Passed,
     Refused { refusal: Refusal },

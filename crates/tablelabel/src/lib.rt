@@ -1,4 +1,6 @@
 // The label of a whole table, summed in the pass that checks it, so that the ids are read once.
+#![tactic(auto)]
+
 ghost use Rattle.std.specs.Prelude.{◌≡◌};
 ghost use Rattle.table.specs.Answer.{answer, refused};
 ghost use Rattle.table.specs.Table.{judge_table};
@@ -11,7 +13,7 @@ use table::check::{check_start, next_rises};
 use table::{Checked, Refusal};
 
 // The label, where the checks are passed; the empty one, where a check refuses.
-#[derive(Drop)]
+#[derive(Clone, Copy)]
 pub struct LabelledTable {
     pub checked: Checked,
     pub label: Label,

@@ -1,4 +1,6 @@
 // The text that `showmsg` prints.
+#![tactic(auto)]
+
 pub mod show;
 
 ghost use Rattle.std.specs.Prelude.{◌+◌, ◌*◌, ◌≤◌, ◌<◌, ◌≡◌, [], ◌∷◌, ◌++◌, length, take, drop};

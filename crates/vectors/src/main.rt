@@ -1,5 +1,7 @@
 // Writes a line for each of some messages: its SHA-256 digest in hexadecimal, two spaces and what the message is. The messages are
 // the vectors of FIPS 180-4, and every length that meets the padding in another place. tests/vectors makes the same lines by sha256sum.
+#![tactic(auto)]
+
 use libc::STDOUT_FILENO;
 
 fn digit(n: u8) -> u8 {

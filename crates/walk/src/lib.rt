@@ -1,4 +1,6 @@
 // Steps through a message range by range, with the own items of each range. For our own crates: message and table are checked before.
+#![tactic(auto)]
+
 ghost use Rattle.std.specs.Prelude.{◌<◌, ◌≡◌, length};
 ghost use Rattle.table.specs.Code.{lent};
 ghost use Rattle.table.specs.Private.{Passed};
@@ -10,14 +12,14 @@ use reader::range::RangeCursor;
 use table::search::first_at_or_above;
 
 // Where a walk stands: the cursor in the message, and the place in the table of the bound before it.
-#[derive(Drop)]
+#[derive(Clone, Copy)]
 pub struct Walk {
     pub cursor: RangeCursor,
     pub lo: usize,
 }
 
 // One range, with the own items from `lo` up to `hi`, and the walk behind it.
-#[derive(Drop)]
+#[derive(Clone, Copy)]
 pub struct Step {
     pub span: Span,
     pub payload: Payload,

@@ -1,6 +1,8 @@
 // The ids that a reply adds to the needed list, in windows: the smallest of them from some id on, as many as have room, rising and without repeats. Each
 // window is a walk over the whole reply. The words of the ids, their first eight bytes as numbers, are parted into intervals, and each window has ids of one
 // interval only. For our own crates.
+#![tactic(auto)]
+
 ghost use Rattle.std.specs.Prelude.{◌≡◌, length};
 ghost use Rattle.table.specs.Code.{lent};
 ghost use Rattle.table.specs.Private.{Passed};
@@ -19,7 +21,7 @@ pub mod spread;
 
 // The ids that a window may have: their words are from `low` to `last`, they are above the id at place `floor` unless it is the `first` window of the interval,
 // and, where it is `capped`, no higher than the id at place `ceiling`.
-#[derive(Drop)]
+#[derive(Clone, Copy)]
 pub struct Interval {
     pub low: u64,
     pub last: u64,
@@ -30,7 +32,7 @@ pub struct Interval {
 }
 
 // How many ids the window has, and whether there may be more behind it.
-#[derive(Drop)]
+#[derive(Clone, Copy)]
 pub struct Window {
     pub count: usize,
     pub full: bool,

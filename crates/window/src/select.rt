@@ -19,7 +19,7 @@ use table::compare::{id_below, word};
 use walk::Walk;
 
 // A list is gone through up to id number `next`, and `count` of its ids are picked.
-#[derive(Drop)]
+#[derive(Clone, Copy)]
 struct Picks {
     next: usize,
     count: usize,

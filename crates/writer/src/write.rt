@@ -12,7 +12,7 @@ use message::{Bound, Payload, Range, Refusal, below};
 
 // The place behind the bytes already written, the bound handed over last, whether it is that of a skip not written yet, and then the time
 // of the last bound that was written.
-#[derive(Drop)]
+#[derive(Clone, Copy)]
 pub struct Writer {
     pub at: usize,
     pub time: u64,
@@ -22,14 +22,14 @@ pub struct Writer {
 }
 
 // A pass over the ranges of a message: they are measured, for a message of at most `size` bytes, or written.
-#[derive(Drop)]
+#[derive(Clone, Copy)]
 pub enum Pass {
     Measure { size: usize },
     Write,
 }
 
 // The answer, and the writer afterwards.
-#[derive(Drop)]
+#[derive(Clone, Copy)]
 pub struct Write {
     pub written: Written,
     pub next: Writer,

@@ -2,8 +2,8 @@
 """Respells the names that specs/ and proofs/ declare, as today's Rattle spells names: words in snake case, `′` is `'`.
 
 Run once, right after /opt/rattle/port/port.py, at the top of the repository. A name in camel case that begins with a small letter gets underscores
-(`judgeTable`: `judge_table`), and so does one with dashes (`true-and-complete`: `true_and_complete`), but for a dash that joins the names of two
-definitions, which stays (`cut-ids`). Where two names would fall together the lemma gets `_lem`. Types, modules, functions of src/, exported names and the names that the check generates stay as they are."""
+(`judgeTable`: `judge_table`), and so does one with dashes (`true-and-complete`: `true_and_complete`), but for a lone dash that joins the
+names of two definitions, which stays (`cut-ids`). Where two names would fall together the lemma gets `_lem`. Types, modules, functions of src/, exported names and the names that the check generates stay as they are."""
 import collections
 import pathlib
 import re
@@ -61,7 +61,7 @@ def respelled(name, words, where):
     parts = name.replace("′", "'").split("-")
     out = snake(parts[0]) if not re.search(r"^[a-z]+[A-Z]{2}", parts[0]) else parts[0]
     for before, part in zip(parts, parts[1:]):
-        known = before in words and part in words
+        known = len(parts) == 2 and before in words and part in words
         small = snake(part) if part[:1].islower() else part
         out += ("-" if known or not re.match(r"[\w']", part) or part[:1].isupper() else "_") + small
     return out

@@ -48,8 +48,8 @@ module _ (Replies : Table → List ℕ → List ℕ → Type 0) (A B : Table) (a
       (λ e₁. by_test (not_rising B) (λ e₂. none (λ x h. clash e₂ (lawful.rising B x.handed.query x.handed.reply h.1)) ρ)
       (λ e₂. some once bytes (own-items B bytes (e₁, e₂)) ρ))
 
-pub true_and-complete_mixed : (Replies : Table → List ℕ → List ℕ → Type 0) → LawfulReplies Replies → TrueAndCompleteMixed Replies
-true_and-complete_mixed Replies lawful A B a b bytes-A bytes-B once limit lent n e p ρ =
+pub true_and_complete_mixed : (Replies : Table → List ℕ → List ℕ → Type 0) → LawfulReplies Replies → TrueAndCompleteMixed Replies
+true_and_complete_mixed Replies lawful A B a b bytes-A bytes-B once limit lent n e p ρ =
     let w = (unrefused-opening limit A a lent n e).checks in
     let k_a = kept A a bytes-A w.size w.order w.limits in
     either Replies A B a b lawful k_a (opening_within limit A a lent) (opening-begun limit A a k_a lent n e) once bytes-B ρ

@@ -43,8 +43,8 @@ mirrored A B p z here there done-p done-z none-p none-z i =
     let their-theirs = theirs_exact B A z there done-z none-z i in
     ((λ r. their-theirs.1 (ours.0 r), λ r. ours.1 (their-theirs.0 r)), (λ r. their-ours.1 (theirs.0 r), λ r. theirs.1 (their-ours.0 r)))
 
-one-time_swap : (is js : List Item) → OneTime (is ++ js) → OneTime (js ++ is)
-one-time_swap is js once i j hi hj e = once i j (swap i hi) (swap j hj) e
+one_time_swap : (is js : List Item) → OneTime (is ++ js) → OneTime (js ++ is)
+one_time_swap is js once i j hi hj e = once i j (swap i hi) (swap j hj) e
   where
     swap : (i : Item) → Memᴰ i (js ++ is) → Memᴰ i (is ++ js)
     swap i m = ⊎_elim (λ n. Memᴰ.append_right is n) (λ n. Memᴰ.append_left js n) (Memᴰ.append_cases js m)
@@ -55,5 +55,5 @@ whoever_opens A B a b c d bytes-A bytes-B once s z none-s none-z i =
     let p = end A B a b s in
     let q = end B A c d z in
     let here = reported-after A B a b bytes-A bytes-B once s.lent s.size s.opens s.takes s.handed in
-    let there = reported-after B A c d bytes-B bytes-A (one-time_swap (items A) (items B) once) z.lent z.size z.opens z.takes z.handed in
+    let there = reported-after B A c d bytes-B bytes-A (one_time_swap (items A) (items B) once) z.lent z.size z.opens z.takes z.handed in
     mirrored A B p q here there s.done z.done none-s none-z i

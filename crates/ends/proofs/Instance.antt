@@ -31,12 +31,12 @@ use Rattle.ends.specs.Finished.{end, NoneCollides}
 use Rattle.ends.specs.Instance.{starting, ours, theirs, two, lent, query, reply, take₁, take₂, take₃, takes, Asked, AskedHere, Done, exchanged, more, handed_with, OtherTables, Conversions, takes_back, AskedBothHere, OwnAnswer, RunHere}
 use Rattle.ends.proofs.Demand.{demand3}
 use Rattle.ends.proofs.Mixed.{demand3_mixed}
-use Rattle.ends.proofs.Labelled.{knows_its-table}
+use Rattle.ends.proofs.Labelled.{knows_its_table}
 use Rattle.ends.proofs.Finished.{whoever_opens}
 use Rattle.ends.proofs.Tables.{kept}
 use Rattle.ends.proofs.Calls.{Checked, answer_checks}
 use Rattle.ends.proofs.Own.{answer-replied}
-use Rattle.ends.proofs.Replies.{LawfulReplies, true_and-complete}
+use Rattle.ends.proofs.Replies.{LawfulReplies, true_and_complete}
 
 -- the two ids differ
 two-ids : {C : Type 0} → starting 0x01 ≡ starting 0x02 → C
@@ -184,7 +184,7 @@ reported_then =
     other_tables.place other_tables.takes).reported
 
 pub knows : Knows ours theirs two two other_tables.place
-knows = knows_its-table ours theirs two two asked.ours_bytes asked.theirs_bytes unlimited lent 37 asked.opens other_tables.place other_tables.takes
+knows = knows_its_table ours theirs two two asked.ours_bytes asked.theirs_bytes unlimited lent 37 asked.opens other_tables.place other_tables.takes
 
 -- ---- replies of any kind
 
@@ -205,4 +205,4 @@ run-here = met.mixed
 -- what is reported there is true and complete
 pub reported-here : Reported ours theirs run-here.0
 reported-here =
-    true_and-complete OwnAnswer own-lawful ours theirs two asked.ours_bytes asked.theirs_bytes asked.once lent 37 asked.opens run-here.0 run-here.1
+    true_and_complete OwnAnswer own-lawful ours theirs two asked.ours_bytes asked.theirs_bytes asked.once lent 37 asked.opens run-here.0 run-here.1

@@ -1,4 +1,4 @@
--- The session's label at every place of a list of takes: `knows_its-table`.
+-- The session's label at every place of a list of takes: `knows_its_table`.
 use Prim.Native.Nat.{ℕ}
 use mathlib.Core.Path.{◌≡◌, sym, ◌∙◌}
 use Rattle.theory.specs.Rounds.{Cut}
@@ -21,8 +21,8 @@ turned_down A B a b x l s other =
     (λ n e. absurd (other (sym (not-other x.table l.session (unrefused-take x.limit x.table (by x.odd a) x.handed.reply l n e).label) ∙ s)))
     (λ k e. (k, e))
 
-pub knows_its-table : KnowsItsTable
-knows_its-table A B a b bytes-A bytes-B limit lent n e p ρ =
+pub knows_its_table : KnowsItsTable
+knows_its_table A B a b bytes-A bytes-B limit lent n e p ρ =
     let w = stands A B a b bytes-A bytes-B limit lent n e ρ in
     let checks = (unrefused-opening limit A a lent n e).checks in
     record {

@@ -70,8 +70,8 @@ module _ (Replies : Table → List ℕ → List ℕ → Type 0) (A B : Table) (a
         (λ e₁. by_test (not_rising B) (λ e₂. none (λ t h. clash e₂ (lawful.rising B t.query t.reply h)) ρ)
         (λ e₂. some bytes (own-items B bytes (e₁, e₂)) ρ))
 
-pub true_and-complete : (Replies : Table → List ℕ → List ℕ → Type 0) → LawfulReplies Replies → TrueAndComplete Replies
-true_and-complete Replies lawful A B a bytes-A bytes-B once lent n e p ρ =
+pub true_and_complete : (Replies : Table → List ℕ → List ℕ → Type 0) → LawfulReplies Replies → TrueAndComplete Replies
+true_and_complete Replies lawful A B a bytes-A bytes-B once lent n e p ρ =
     let w = (unrefused-opening unlimited A a lent n e).checks in
     let k_a = kept A a bytes-A w.size w.order w.limits in
     either Replies A B a lawful k_a once (opening A a lent) (opening-begun unlimited A a k_a lent n e) bytes-B ρ

@@ -27,9 +27,9 @@ use Rattle.ends.proofs.Calls.{unrefused-opening, unrefused-take}
 
 -- ---- Answer
 
-pub answers-by_version : AnswersByVersion
+pub answers_by_version : AnswersByVersion
 unfolding answered_within other_version read_message
-answers-by_version limit T c out = record {
+answers_by_version limit T c out = record {
   own = λ rest. refl;
   other = λ v rest low high new. rw (le-leb 0x60 v low, le-leb v 0x6F high, ne_eqb v 0x61 new) refl;
   outside = λ v rest far.

@@ -30,7 +30,7 @@ use Rattle.fold.specs.Fold.{cannot_hold, wrong_needed, same_item, not_due, judge
 use Rattle.fold.specs.Commits.{State}
 use Rattle.fold.specs.Union.{Union}
 use Rattle.fold.specs.Instance.{last, commits, AskedHere, DeliveredHere, ComesTo, IsUnion}
-use Rattle.fold.proofs.Union.{union_after-commits}
+use Rattle.fold.proofs.Union.{union_after_commits}
 
 -- what the commits meet, and what they come to
 record Met : Type 0 where
@@ -70,4 +70,4 @@ comes_to = met.comes_to
 pub is_union : IsUnion
 is_union =
     subst (λ (s : State). Union ours theirs s.table) comes_to
-    (union_after-commits ours theirs two two unlimited lent (length query) last commits asked delivered).0
+    (union_after_commits ours theirs two two unlimited lent (length query) last commits asked delivered).0

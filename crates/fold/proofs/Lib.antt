@@ -3,7 +3,7 @@
 -- Commits    what an unrefused commit went through, and what a refused one leaves; the merged table passes 1 and 2
 -- Agreement  the inquiry and the commit agree, `inquiry_agrees`; what a commit leaves passes the checks of the next one, `commit_passes`
 -- Needed     which ids are needed after commits, `needed-after-commits`
--- Union      our table is the union of both, `union_after-commits`; where no id is needed any more, all was delivered, `delivered_told`
+-- Union      our table is the union of both, `union_after_commits`; where no id is needed any more, all was delivered, `delivered_told`
 -- Converted  after commits, too, the conversion gives the session back, `converted-after-commits`
 -- Instance   all that `UnionAfterCommits` asks for, met on bytes, and the union there: `asked`, `comes_to`, `is_union`
 pub mod Merging

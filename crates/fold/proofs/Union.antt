@@ -1,4 +1,4 @@
--- After commits that delivered the whole needed list, our table is the union of both, and no id is needed: `union_after-commits`. Where no id is needed, the
+-- After commits that delivered the whole needed list, our table is the union of both, and no id is needed: `union_after_commits`. Where no id is needed, the
 -- whole list was delivered: `delivered_told`.
 use Prim.Native.Nat.{ℕ, ◌*◌, ◌≤◌}
 use mathlib.Core.Path.{◌≡◌, sym, ap, ◌∙◌}
@@ -145,8 +145,8 @@ by_member d l f g = by_test (some (same d) l) (λ e. f (some_mem d l e)) (λ e. 
 room : {n : ℕ} {bytes : List ℕ} → Listed n bytes → 32 * n ≤ length bytes
 room w = let e = listed-length w in omega arith
 
-pub union_after-commits : UnionAfterCommits
-union_after-commits A B a b limit lent n p commits h delivered =
+pub union_after_commits : UnionAfterCommits
+union_after_commits A B a b limit lent n p commits h delivered =
     let ours = (unrefused-opening limit A a lent n h.opens).checks in
     let left = ended A B a b h.ours_bytes h.theirs_bytes limit lent n h.opens h.once h.takes h.done in
     let whole-A : All Whole (items A) = items-whole A h.ours_bytes ours.size in

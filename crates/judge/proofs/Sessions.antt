@@ -1,4 +1,4 @@
--- Reports with approved replies are true and complete: an instance of `true_and-complete_mixed`.
+-- Reports with approved replies are true and complete: an instance of `true_and_complete_mixed`.
 use mathlib.Core.Path.{◌≡◌, sym, ap, ◌∙◌}
 use Prim.Native.Nat.{ℕ}
 use mathlib.Core.List.{List}
@@ -8,7 +8,7 @@ use Rattle.table.specs.Table.{Table}
 use Rattle.cutting.proofs.Projection.{project}
 use Rattle.ends.proofs.Relations.{Means, means-ranges, Replied}
 use Rattle.ends.proofs.Replies.{read-replied}
-use Rattle.ends.proofs.AnyReplies.{true_and-complete_mixed}
+use Rattle.ends.proofs.AnyReplies.{true_and_complete_mixed}
 use Rattle.judge.specs.Exact.{Lawful}
 use Rattle.judge.specs.Sessions.{GetsYes, ApprovedReports}
 use Rattle.judge.proofs.Verdict.{bytes_well, means_well, yes_checks, yes-lawful, judged-lawful}
@@ -23,7 +23,7 @@ approved-replied B q r bytes h w =
     rw is (read-replied B r yes.given _ h.0 yes.reply_says (judged-lawful B q r bytes yes))
 
 pub approved-reports : ApprovedReports
-approved-reports = true_and-complete_mixed GetsYes (record {
+approved-reports = true_and_complete_mixed GetsYes (record {
   sized = λ B q r h. (yes_checks B q r h.1).0;
   rising = λ B q r h. (yes_checks B q r h.1).1;
   replied = λ B q r bytes h w. approved-replied B q r bytes h w;

@@ -22,7 +22,7 @@ use Rattle.walk.specs.Adding.{added_from, others}
 use Rattle.walk.proofs.Adding.{lacks, list_from, needed_is}
 use Rattle.needed.specs.Batches.{unless, not_found}
 use Rattle.needed.proofs.Inserting.{added_grows}
-use Rattle.needed.proofs.Batching.{not_found_from, not-found_all, not-found-none, not-found-next, unowned_in, LookedUp, others-next, others_all, others-none, ids-add-next}
+use Rattle.needed.proofs.Batching.{not_found_from, not_found_all, not-found-none, not-found-next, unowned_in, LookedUp, others-next, others_all, others-none, ids-add-next}
 
 -- ---- the ids of a block
 
@@ -32,7 +32,7 @@ Counting found n count i = (l : List ℕ) → length (not_found found n l) ≡ c
 
 module _ (found : List ℕ) (n : ℕ) where
   pub counting_starts : Counting found n 0 0
-  counting_starts l = let e : length (not_found found n l) ≡ length (not_found_from found n l 0 0) = ap length (not-found_all found n l 0) in omega (arith, e)
+  counting_starts l = let e : length (not_found found n l) ≡ length (not_found_from found n l 0 0) = ap length (not_found_all found n l 0) in omega (arith, e)
 
   pub counting_one : (count i : ℕ) → i < n → get_or found i 0 ≡ 0 → Counting found n count i → Counting found n (count + 1) (i + 1)
   counting_one count i h e s l =

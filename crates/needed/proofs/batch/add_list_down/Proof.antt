@@ -9,7 +9,7 @@ use Rattle.message.specs.Code.{ids_in}
 use Rattle.reader.proofs.Listing.{part-from}
 use Rattle.ends.specs.Opener.{insert}
 use Rattle.needed.specs.Batches.{meant, not_found}
-use Rattle.needed.proofs.Batching.{unowned_in, Adding, adding_starts, adding_on, adding_ends, adding_room-last, adding_last, others-last, others-first}
+use Rattle.needed.proofs.Batching.{unowned_in, Adding, adding_starts, adding_on, adding_ends, adding_room_last, adding_last, others-last, others-first}
 use Rattle.needed.proofs.batch.add_list_down.Statement.{statement}
 use Rattle.needed.proofs.batch.add_list_down.Tie as tie
 
@@ -135,7 +135,7 @@ add-new-down-requires c κs =
       omega arith,
       omega arith,
       omega arith,
-      adding_room-last (m k) a.needed.now a.batch (whole k) (newIn d) (ahead k (l.left - d.before.before.before.before.before.before.block.result)) l.needed l.words l.pos l.batch (next d) (rw n room),
+      adding_room_last (m k) a.needed.now a.batch (whole k) (newIn d) (ahead k (l.left - d.before.before.before.before.before.before.block.result)) l.needed l.words l.pos l.batch (next d) (rw n room),
     )
 
 loop-again : tie.Need-loop-preserved invariant-loop decreases-loop

@@ -6,7 +6,7 @@ use native.Mathlib.Omega.{arith}
 use lib.ListN.{length, take, drop, get_or}
 use Rattle.ends.specs.Opener.{insert}
 use Rattle.needed.specs.Batches.{meant, unless, not_found}
-use Rattle.needed.proofs.Batching.{Adding, adding_starts, adding_on, adding_ends, adding_room-last, adding_last, not-found-last, not-found-first}
+use Rattle.needed.proofs.Batching.{Adding, adding_starts, adding_on, adding_ends, adding_room_last, adding_last, not-found-last, not-found-first}
 use Rattle.needed.proofs.batch.add_new_down.Statement.{statement}
 use Rattle.needed.proofs.batch.add_new_down.Tie as tie
 
@@ -59,7 +59,7 @@ add-unless-requires c κs =
       l.invariant.4.batched,
       omega arith,
       omega arith,
-      adding_room-last a.m.now a.needed.now a.batch (whole k) (part k) (rest k) l.needed l.words l.pos l.batch (next k (omega arith)) (rw n room),
+      adding_room_last a.m.now a.needed.now a.batch (whole k) (part k) (rest k) l.needed l.words l.pos l.batch (next k (omega arith)) (rw n room),
     )
 
 loop-again : tie.Need-loop-preserved invariant-loop decreases-loop

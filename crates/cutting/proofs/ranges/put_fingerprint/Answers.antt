@@ -1,0 +1,45 @@
+-- `cutting::ranges::put_fingerprint` meets its contract.
+use mathlib.Core.Path.{◌≡◌, refl, ◌∙◌}
+use Prim.Native.Nat.{◌*◌, ◌≤◌}
+use native.Mathlib.Omega.{arith}
+use lib.ListN.{length}
+use borrow.Author.Rules.{rules}
+use Rattle.writer.specs.Handover.{writes, buffer_of}
+use Rattle.table.specs.Code.{lent}
+use Rattle.table.specs.Table.{Table, items}
+use Rattle.cutting.specs.Cutting.{fingerprint_of}
+use Rattle.table.proofs.Items.{right_size}
+use Rattle.cutting.proofs.Parts.{run_of, run-print, print-length, hands-print}
+use Rattle.cutting.proofs.ranges.put_fingerprint.Goals as goal
+
+abbrev table : goal.Start → Table
+table s = lent s.args.times.now s.args.own.now
+
+sized : (s : goal.Start) → (length s.args.own.now ≡ 32 * length s.args.times.now) × (length s.args.times.now ≤ 1048576)
+sized s = right_size (table c) s.requires.0.0
+
+pub overflow_mul-first : goal.overflow_mul-first
+overflow_mul-first c =
+    let r = sized c in
+    omega arith
+
+pub overflow_mul-last : goal.overflow_mul-last
+overflow_mul-last c =
+    let r = sized c in
+    omega arith
+
+pub slice_bounds-fingerprint_bytes-end : goal.slice_bounds-fingerprint_bytes-end
+slice_bounds-fingerprint_bytes-end c =
+    let r = sized c in
+    search rules
+
+pub returns : goal.returns
+returns c =
+    let a = c.args in
+    let made = c.fingerprint_bytes-source in
+    let own = run_of (items (table c)) a.at a.end in
+    let whole : length made.result ≡ 16 = search rules in
+    let put = c.put in
+    hands-print (writes a.pass) a.upper.bound a.upper.prefix made.result (fingerprint_of own) whole (print-length own)
+    (λ e. made.ensures e ∙ run-print (table c) c.requires.0 a.at a.end c.requires.1 c.requires.2 _ refl)
+    a.writer (buffer_of a.pass a.out.now) (buffer_of a.pass put.last.1.0) put.result c.requires.3 put.ensures.written_value put.ensures.next_value.0 put.ensures.next_value.1

@@ -1,0 +1,10 @@
+use Rattle.std.proofs.Common.{◌≡◌, ◌-◌, ◌≤◌, length, take, drop}
+use Rattle.sha256.specs.Fips180.{words, extend}
+use Rattle.sha256.proofs.compression.schedule.Given as goal
+
+abbrev pub invariant-loop-t : goal.invariant-loop-t
+invariant-loop-t l =
+    (16 ≤ l.t) × (l.t ≤ 64) × (length l.initial.t ≡ 64) × (take l.t l.initial.t ≡ extend (l.t - 16) (words 16 (take 64 (drop l.at l.m))))
+
+abbrev pub decreases-loop-t : goal.decreases-loop-t
+decreases-loop-t l = 64 - l.t

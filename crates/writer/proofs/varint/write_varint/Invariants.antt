@@ -1,0 +1,14 @@
+use Prim.Native.Nat.{◌-◌, ◌<◌, ◌^◌}
+use mathlib.Core.Path.{◌≡◌}
+use mathlib.Core.List.{◌++◌}
+use lib.ListN.{length, drop}
+use Rattle.message.specs.Varint.{digits_before, spell_varint}
+use Rattle.message.proofs.Varints.{digit_count}
+use Rattle.writer.proofs.varint.write_varint.Given as goal
+
+abbrev pub invariant-loop-i : goal.invariant-loop-i
+invariant-loop-i l =
+    (l.initial.q ≡ digit_count 10 l.q) × (l.q < 2 ^ 57) × (l.initial.q < length l.i) × (length l.i ≡ length l.initial.out) × (digits_before 10 l.q (drop l.initial.q l.i) ≡ spell_varint l.out ++ drop l.v l.initial.out)
+
+abbrev pub decreases-loop-i : goal.decreases-loop-i
+decreases-loop-i l = l.initial.q

@@ -1,0 +1,20 @@
+-- `writer::write::Writer::put` meets its contract.
+use Prim.Native.Nat.{ℕ}
+use mathlib.Core.Path.{refl}
+use lib.ListN.{length-replicate}
+use Rattle.writer.proofs.write.Writer.put.Goals as goal
+
+pub returns-in-Measure : goal.returns-in-Measure
+returns-in-Measure c =
+    let told = c.in-Measure.is in
+    let size = length-replicate {A = ℕ} c.in-Measure.size 0 in
+    let m = c.measure.ensures in
+    let both = (rw (told, size) m.written_value, (rw (told, size) m.next_value, rw told refl)) in
+    record { written_value = both.0; next_value = both.1; out_after = both.2 }
+
+pub returns-in-Write : goal.returns-in-Write
+returns-in-Write c =
+    let told = c.in-Write.is in
+    let w = c.write.ensures in
+    let both = (rw told w.written_value, (rw told w.next_value.0, rw told w.next_value.1)) in
+    record { written_value = both.0; next_value = both.1; out_after = both.2 }

@@ -6,8 +6,8 @@ use native.Mathlib.Omega.{arith}
 use Rattle.cutting.proofs.Sizes.{size_larger, size-smaller}
 use Rattle.cutting.proofs.part_size.Goals as goal
 
-pub overflow_sub_if1 : goal.overflow_sub_if1
-overflow_sub_if1 c =
+pub overflow_sub-b : goal.overflow_sub-b
+overflow_sub-b c =
     let a = c.args in
     let some : 0 < a.b = omega arith in
     let m = mod-lt a.c some in

@@ -10,4 +10,4 @@ returns c =
     let put = c.put.ensures in
     rw (← f.0)
     (hands-put (writes a.pass) (record { range = c.first_ids-range.result; source = a.own.now }) a.writer (buffer_of a.pass a.out.now)
-    (buffer_of a.pass c.put.new.out) c.put.result (f.1, f.2) put.written_value put.next_value.0 put.next_value.1)
+    (buffer_of a.pass c.put.new.out) c.put.result (f.1, f.2) put.written_value put.next_value put.out_after)

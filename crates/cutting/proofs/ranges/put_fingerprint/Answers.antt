@@ -12,34 +12,35 @@ use Rattle.table.proofs.Items.{right_size}
 use Rattle.cutting.proofs.Parts.{run_of, run-print, print-length, hands-print}
 use Rattle.cutting.proofs.ranges.put_fingerprint.Goals as goal
 
-abbrev table : goal.Start → Table
-table s = lent s.args.times.now s.args.own.now
-
-sized : (s : goal.Start) → (length s.args.own.now ≡ 32 * length s.args.times.now) × (length s.args.times.now ≤ 1048576)
-sized s = right_size (table c) s.requires.0.0
-
 pub overflow_mul-first : goal.overflow_mul-first
 overflow_mul-first c =
-    let r = sized c in
+    let table : Table = lent c.args.times.now c.args.own.now in
+    let sized : (length c.args.own.now ≡ 32 * length c.args.times.now) × (length c.args.times.now ≤ 1048576) = right_size (table) c.requires.0.0 in
+    let r = sized in
     omega arith
 
 pub overflow_mul-last : goal.overflow_mul-last
 overflow_mul-last c =
-    let r = sized c in
+    let table : Table = lent c.args.times.now c.args.own.now in
+    let sized : (length c.args.own.now ≡ 32 * length c.args.times.now) × (length c.args.times.now ≤ 1048576) = right_size (table) c.requires.0.0 in
+    let r = sized in
     omega arith
 
 pub slice_bounds-fingerprint_bytes-end : goal.slice_bounds-fingerprint_bytes-end
 slice_bounds-fingerprint_bytes-end c =
-    let r = sized c in
+    let table : Table = lent c.args.times.now c.args.own.now in
+    let sized : (length c.args.own.now ≡ 32 * length c.args.times.now) × (length c.args.times.now ≤ 1048576) = right_size (table) c.requires.0.0 in
+    let r = sized in
     search rules
 
 pub returns : goal.returns
 returns c =
+    let table : Table = lent c.args.times.now c.args.own.now in
     let a = c.args in
     let made = c.fingerprint_bytes-source in
-    let own = run_of (items (table c)) a.at a.end in
+    let own = run_of (items (table)) a.at a.end in
     let whole : length made.result ≡ 16 = search rules in
     let put = c.put in
     hands-print (writes a.pass) a.upper.bound a.upper.prefix made.result (fingerprint_of own) whole (print-length own)
-    (λ e. made.ensures e ∙ run-print (table c) c.requires.0 a.at a.end c.requires.1 c.requires.2 _ refl)
-    a.writer (buffer_of a.pass a.out.now) (buffer_of a.pass put.last.1.0) put.result c.requires.3 put.ensures.written_value put.ensures.next_value.0 put.ensures.next_value.1
+    (λ e. made.ensures e ∙ run-print (table) c.requires.0 a.at a.end c.requires.1 c.requires.2 _ refl)
+    a.writer (buffer_of a.pass a.out.now) (buffer_of a.pass put.last.1.0) put.result c.requires.3 put.ensures.written_value put.ensures.next_value put.ensures.out_after

@@ -3,7 +3,7 @@ use mathlib.Core.Path.{refl, ap, ◌∙◌}
 use Prim.Native.Nat.{◌+◌, ◌-◌, ◌≤◌, ◌<◌}
 use native.Mathlib.Omega.{arith}
 use borrow.Author.Rules.{rules}
-use mathlib.Core.List.{◌∷◌}
+use mathlib.Core.List.{[], ◌∷◌}
 use Rattle.message.specs.Message.{range, fingerprint}
 use Rattle.message.specs.Code.{bound_of}
 use Rattle.writer.specs.Writing.{verdict_of}
@@ -17,56 +17,48 @@ use Rattle.table.proofs.Items.{right_size}
 use Rattle.cutting.proofs.Parts.{run_of, parts-start, parts-end, part-some, part-fits, parts_next, parts_stop}
 use Rattle.cutting.proofs.ranges.put_parts.Goals as goal
 
-abbrev table : goal.Start → Table
-table s = lent s.args.times.now s.args.own.now
-
--- there is a part more
-more : (c : goal.In-loop-i) → c.before.loop.i < c.before.before.before.before.before.before.args.parts
-more c = omega arith
-
--- it holds an item at least, and ends inside the span
-some_item : (c : goal.After-part_size) → 0 < c.part-size.result
-some_item c = part-some _ (table c) _ c.args.span _ c.requires.1 c.requires.2 c.requires.3 _ _ _ c.loop-i.invariant.0 (more c) _ c.part_size.ensures
-
-ends-inside : (c : goal.After-part_size) → c.before.before.loop.at + c.part-size.result ≤ c.before.before.before.before.before.before.before.args.span.hi
-ends-inside c = part-fits _ (table c) _ c.args.span _ c.requires.1 c.requires.2 c.requires.3 _ _ _ c.loop-i.invariant.0 (more c) _ c.part_size.ensures
-
--- the part that was handed over
-one : (p : goal.After-put_fingerprint-answer) → let l = p.before.before.before.before.before.before.loop in let s = p.before.before.before.before.before.before.before.before.before.before.before in HandsOver (writes s.args.pass) (range (bound_of p.before.before.before.upper-at.result.bound p.before.before.before.upper-at.result.prefix) (fingerprint (fingerprint_of (run_of (items (table s)) l.at (l.at + p.before.before.before.before.part-size.result)))) ∷ []) (after l.answer (buffer_of s.args.pass l.out)) (after p.put-fingerprint.result (buffer_of s.args.pass p.put-fingerprint.new.1.0))
-one p = 
-    let l = p.loop-i in
-    let a = p.args in
-    rw (after-before l.answer (buffer_of a.pass l.out) l.invariant.0.taken_so_far) p.put_fingerprint-answer.ensures
-
 pub overflow_sub-count : goal.overflow_sub-count
 overflow_sub-count c = c.requires.1.0
 
 pub loop-i-init : goal.loop-i-init
 loop-i-init c =
+    let table : Table = lent c.args.times.now c.args.own.now in
     let a = c.args in
-    (parts-start (writes a.pass) (table c) a.parts a.span (before a.writer (buffer_of a.pass a.out.now)) c.requires.1 c.requires.2 c.requires.3 refl, refl)
+    (parts-start (writes a.pass) (table) a.parts a.span (before a.writer (buffer_of a.pass a.out.now)) c.requires.1 c.requires.2 c.requires.3 refl, refl)
 
 pub part_size-requires : goal.part_size-requires
 part_size-requires c =
-    let r = right_size (table c) c.requires.0.0 in
+    let table : Table = lent c.args.times.now c.args.own.now in
+    let more : c.loop-i.i < c.args.parts = omega arith in
+    let r = right_size (table) c.requires.0.0 in
     let few : c.args.span.hi - c.args.span.lo ≤ 1048576 = let i = c.requires.1.1 in omega arith in
-    (more c, few)
+    (more, few)
 
 pub overflow_add-end : goal.overflow_add-end
 overflow_add-end c =
-    let r = right_size (table c) c.requires.0.0 in
+    let table : Table = lent c.args.times.now c.args.own.now in
+    let more : c.loop-i.i < c.args.parts = omega arith in
+    let ends-inside : c.loop-i.at + c.part_size.result ≤ c.args.span.hi = part-fits _ (table) _ c.args.span _ c.requires.1 c.requires.2 c.requires.3 _ _ _ c.loop-i.invariant.0 (more) _ c.part_size.ensures in
+    let r = right_size (table) c.requires.0.0 in
     let i = c.requires.1.1 in
-    let e = ends-inside c in
+    let e = ends-inside in
     omega arith
 
 pub upper_at-upper-requires : goal.upper_at-upper-requires
 upper_at-upper-requires c =
-    let p = some_item c in
-    (c.requires.0, c.requires.1, omega (arith, p), ends-inside c)
+    let table : Table = lent c.args.times.now c.args.own.now in
+    let more : c.loop-i.i < c.args.parts = omega arith in
+    let some_item : 0 < c.part_size.result = part-some _ (table) _ c.args.span _ c.requires.1 c.requires.2 c.requires.3 _ _ _ c.loop-i.invariant.0 (more) _ c.part_size.ensures in
+    let ends-inside : c.loop-i.at + c.part_size.result ≤ c.args.span.hi = part-fits _ (table) _ c.args.span _ c.requires.1 c.requires.2 c.requires.3 _ _ _ c.loop-i.invariant.0 (more) _ c.part_size.ensures in
+    let p = some_item in
+    (c.requires.0, c.requires.1, omega (arith, p), ends-inside)
 
 pub put_fingerprint-answer-requires : goal.put_fingerprint-answer-requires
 put_fingerprint-answer-requires c =
-    let e = ends-inside c in
+    let table : Table = lent c.args.times.now c.args.own.now in
+    let more : c.loop-i.i < c.args.parts = omega arith in
+    let ends-inside : c.loop-i.at + c.part_size.result ≤ c.args.span.hi = part-fits _ (table) _ c.args.span _ c.requires.1 c.requires.2 c.requires.3 _ _ _ c.loop-i.invariant.0 (more) _ c.part_size.ensures in
+    let e = ends-inside in
     let i = c.requires.1.1 in
     (c.requires.0, omega arith, omega arith, c.upper_at-upper.ensures.0)
 
@@ -78,8 +70,14 @@ shape_of-out-in-Refused c = search rules
 
 pub returns-in-Refused : goal.returns-in-Refused
 returns-in-Refused c =
+    let table : Table = lent c.args.times.now c.args.own.now in
+    let more : c.loop-i.i < c.args.parts = omega arith in
+    let one : let l = c.loop-i in
+    HandsOver (writes c.args.pass) (range (bound_of c.upper_at-upper.result.bound c.upper_at-upper.result.prefix) (fingerprint (fingerprint_of (run_of (items (table)) l.at (l.at + c.part_size.result)))) ∷ []) (after l.answer (buffer_of c.args.pass l.out)) (after c.put_fingerprint-answer.result (buffer_of c.args.pass c.put_fingerprint-answer.new.out)) = let l = c.loop-i in
+    let a = c.args in
+    rw (after-before l.answer (buffer_of a.pass l.out) l.invariant.0.taken_so_far) c.put_fingerprint-answer.ensures in
     let u = c.upper_at-upper.ensures in
-    parts_stop _ (table c) _ c.args.span _ c.requires.1 c.requires.2 c.requires.3 _ _ _ c.loop-i.invariant.0 (more c) _ c.part_size.ensures _ u.1 u.2 _ (one c) _ (ap verdict_of c.in-Refused.is)
+    parts_stop _ (table) _ c.args.span _ c.requires.1 c.requires.2 c.requires.3 _ _ _ c.loop-i.invariant.0 (more) _ c.part_size.ensures _ u.1 u.2 _ (one) _ (ap verdict_of c.in-Refused.is)
 
 pub enum_told-in-Taken : goal.enum_told-in-Taken
 enum_told-in-Taken c = search rules
@@ -92,13 +90,20 @@ loop-i-smaller c = omega arith
 
 pub loop-i-preserved : goal.loop-i-preserved
 loop-i-preserved c =
+    let table : Table = lent c.args.times.now c.args.own.now in
+    let more : c.loop-i.i < c.args.parts = omega arith in
+    let one : let l = c.loop-i in
+    HandsOver (writes c.args.pass) (range (bound_of c.upper_at-upper.result.bound c.upper_at-upper.result.prefix) (fingerprint (fingerprint_of (run_of (items (table)) l.at (l.at + c.part_size.result)))) ∷ []) (after l.answer (buffer_of c.args.pass l.out)) (after c.put_fingerprint-answer.result (buffer_of c.args.pass c.put_fingerprint-answer.new.out)) = let l = c.loop-i in
+    let a = c.args in
+    rw (after-before l.answer (buffer_of a.pass l.out) l.invariant.0.taken_so_far) c.put_fingerprint-answer.ensures in
     let u = c.upper_at-upper.ensures in
-    (parts_next _ (table c) _ c.args.span _ c.requires.1 c.requires.2 c.requires.3 _ _ _ c.loop-i.invariant.0 (more c) _ c.part_size.ensures _ u.1 u.2 _ (one c) (ap verdict_of c.in-Taken.is), c.put_fingerprint-answer.auto.out ∙ c.loop-i.invariant.1)
+    (parts_next _ (table) _ c.args.span _ c.requires.1 c.requires.2 c.requires.3 _ _ _ c.loop-i.invariant.0 (more) _ c.part_size.ensures _ u.1 u.2 _ (one) (ap verdict_of c.in-Taken.is), c.put_fingerprint-answer.auto.out ∙ c.loop-i.invariant.1)
 
 pub shape_of-out : goal.shape_of-out
 shape_of-out c = search rules
 
 pub returns : goal.returns
 returns c =
+    let table : Table = lent c.args.times.now c.args.own.now in
     let l = c.loop-i in
-    parts-end _ (table c) _ c.args.span _ c.requires.1 c.requires.2 c.requires.3 _ _ _ l.invariant.0 (omega arith)
+    parts-end _ (table) _ c.args.span _ c.requires.1 c.requires.2 c.requires.3 _ _ _ l.invariant.0 (omega arith)

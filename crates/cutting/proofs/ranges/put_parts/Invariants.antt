@@ -9,7 +9,7 @@ use Rattle.cutting.proofs.ranges.put_parts.Given as goal
 
 abbrev pub invariant-loop-i : goal.invariant-loop-i
 invariant-loop-i l =
-    PartsDone (writes l.out) (lent l.pass l.times) l.own l.parts (before l.count.next (buffer_of l.out l.initial.out)) l.i l.initial.i (after l.at (buffer_of l.out l.initial.at)) × (length l.initial.at ≡ length l.initial.out)
+    PartsDone (writes l.pass) (lent l.times l.own) l.parts l.span (before l.initial.answer.next (buffer_of l.pass l.initial.out)) l.i l.at (after l.answer (buffer_of l.pass l.out)) × (length l.out ≡ length l.initial.out)
 
 abbrev pub decreases-loop-i : goal.decreases-loop-i
-decreases-loop-i l = l.own - l.i
+decreases-loop-i l = l.parts - l.i

@@ -12,4 +12,4 @@ returns c =
     let b = c.add_words-b.ensures in
     let d = c.add_words-c.ensures in
     let e = c.add_words-d.ensures in
-    label_path (sum_is _ _ _ _ _ _ _ _ _ _ _ _ _ _ _ _ a.0 b.0 d.0 e.0 a.2 b.2 d.2 e.2) c.wrapping_add_u64.ensures
+    label_path (sum_is _ _ _ _ _ _ _ _ _ _ _ _ _ _ _ _ a.0 b.0 d.0 e.0 a.2 b.2 d.2 e.2) c.wrapping_add_u64.ensures.value

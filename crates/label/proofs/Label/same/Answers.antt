@@ -1,6 +1,5 @@
 -- `label::Label::same` meets its contract.
 use Rattle.std.proofs.Common.{refl}
-use borrow.Author.Tests.{not-true, not-false}
 use Rattle.label.specs.Label.{same_label}
 use Rattle.label.specs.Code.{label_in}
 use Rattle.label.proofs.Label.same.Goals as goal
@@ -9,10 +8,10 @@ pub returns-then-not-same_words : goal.returns-then-not-same_words
 unfolding same_label label_in
 returns-then-not-same_words c =
     let w = c.same_words in
-    rw (← w.ensures, not-true w.result c.if-not-same_words.true) refl
+    rw (← w.ensures, c.if-not-same_words.true) refl
 
 pub returns : goal.returns
 unfolding same_label label_in
 returns c =
     let w = c.same_words in
-    rw (← w.ensures, not-false w.result c.if-not-same_words.false) refl
+    rw (← w.ensures, c.if-not-same_words.false) refl

@@ -1,5 +1,4 @@
 -- `labeltree::append::check_append` meets its contract.
-use borrow.Author.Tests.{not-true, not-false}
 use Rattle.table.specs.Code.{lent, checked_of}
 use Rattle.table.specs.Table.{Table, Item}
 use Rattle.table.specs.Private.{Passed}
@@ -9,34 +8,41 @@ use Rattle.tree.specs.Tree.{item}
 use Rattle.tree.proofs.Calls.{append-id, append-table, append-order, append-place}
 use Rattle.labeltree.proofs.append.check_append.Goals as goal
 
-abbrev table : goal.Start → Table
-table s = lent s.args.times.now s.args.ids.now
-
-abbrev new : goal.Start → Item
-new s = item s.args.time s.args.id.now
-
--- the table has passed
-passed : (c : goal.In-Passed) → Passed (table c.before.before.before.before.before.before.before)
-passed c = judged-passed (table c) (rw c.in-Passed.is at c.check_table.ensures)
-
 pub returns-then-id-ne32 : goal.returns-then-id-ne32
-returns-then-id-ne32 c = append-id (table c) (new c) c.args.len c.if-id-ne32.true
+returns-then-id-ne32 c =
+    let table : Table = lent c.args.times.now c.args.ids.now in
+    let new : Item = item c.args.time c.args.id.now in
+    append-id (table) (new) c.args.len c.if-id-ne32.true
 
 pub returns-then-not-is_above_last : goal.returns-then-not-is_above_last
 returns-then-not-is_above_last c =
-    append-order (table c) (new c) c.args.len c.if-id-ne32.false (passed c) c.is_above_last.result c.is_above_last.ensures (not-true _ c.if-not-is_above_last.true)
+    let table : Table = lent c.args.times.now c.args.ids.now in
+    let new : Item = item c.args.time c.args.id.now in
+    let passed : Passed (table) = judged-passed (table) (rw c.in-Passed.is at c.check_table.ensures) in
+    append-order (table) (new) c.args.len c.if-id-ne32.false (passed) c.is_above_last.result c.is_above_last.ensures c.if-not-is_above_last.true
 
 pub returns-in-Refused : goal.returns-in-Refused
 returns-in-Refused c =
-    append-table (table c) (new c) c.args.len c.if-id-ne32.false _ (rw c.in-Refused.is at c.check_table.ensures)
+    let table : Table = lent c.args.times.now c.args.ids.now in
+    let new : Item = item c.args.time c.args.id.now in
+    append-table (table) (new) c.args.len c.if-id-ne32.false _ (rw c.in-Refused.is at c.check_table.ensures)
 
 pub returns-else-not-is_above_last : goal.returns-else-not-is_above_last
 returns-else-not-is_above_last c =
-    append-place (table c) (new c) c.args.len c.if-id-ne32.false (passed c) c.is_above_last.result (checked_of c.check_place.result)
-    c.is_above_last.ensures (not-false _ c.if-not-is_above_last.false) c.check_place.ensures
+    let table : Table = lent c.args.times.now c.args.ids.now in
+    let new : Item = item c.args.time c.args.id.now in
+    let passed : Passed (table) = judged-passed (table) (rw c.in-Passed.is at c.check_table.ensures) in
+    append-place (table) (new) c.args.len c.if-id-ne32.false (passed) c.is_above_last.result (checked_of c.check_place.result)
+    c.is_above_last.ensures c.if-not-is_above_last.false c.check_place.ensures
 
 pub is_above_last-requires : goal.is_above_last-requires
-is_above_last-requires c = (passed c, c.if-id-ne32.false)
+is_above_last-requires c =
+    let table : Table = lent c.args.times.now c.args.ids.now in
+    let passed : Passed (table) = judged-passed (table) (rw c.in-Passed.is at c.check_table.ensures) in
+    (passed, c.if-id-ne32.false)
 
 pub check_place-requires : goal.check_place-requires
-check_place-requires c = (right_size (table c) (passed c).0).1
+check_place-requires c =
+    let table : Table = lent c.args.times.now c.args.ids.now in
+    let passed : Passed (table) = judged-passed (table) (rw c.in-Passed.is at c.check_table.ensures) in
+    (right_size (table) (passed).0).1

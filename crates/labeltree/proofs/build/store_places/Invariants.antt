@@ -7,7 +7,7 @@ use Rattle.labeltree.proofs.build.store_places.Given as goal
 
 abbrev pub invariant-loop-place : goal.invariant-loop-place
 invariant-loop-place l =
-    (l.initial.place ≡ placed l.places (whole_ids l.ids) l.place l.initial.tree) × ((l.place ≤ l.places) × (length l.initial.place ≡ length l.initial.tree))
+    (l.tree ≡ placed l.places (whole_ids l.ids) l.place l.initial.tree) × ((l.place ≤ l.places) × (length l.tree ≡ length l.initial.tree))
 
 abbrev pub decreases-loop-place : goal.decreases-loop-place
 decreases-loop-place l = l.places - l.place

@@ -9,7 +9,7 @@ use Rattle.reader.proofs.check.check_message.Given as goal
 
 abbrev pub invariant-loop-cursor : goal.invariant-loop-cursor
 invariant-loop-cursor l =
-    (l.count + (length l.m - l.initial.count.at) < length l.m) × (counted (read_message l.m) ≡ more l.count (read_ranges (length l.m) (lower_at l.initial.count) (drop l.initial.count.at l.m)))
+    (l.count + (length l.m - l.cursor.at) < length l.m) × (counted (read_message l.m) ≡ more l.count (read_ranges (length l.m) (lower_at l.cursor) (drop l.cursor.at l.m)))
 
 abbrev pub decreases-loop-cursor : goal.decreases-loop-cursor
-decreases-loop-cursor l = length l.m - l.initial.count.at
+decreases-loop-cursor l = length l.m - l.cursor.at

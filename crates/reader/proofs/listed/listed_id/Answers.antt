@@ -15,8 +15,8 @@ returns-then-m-at c =
     nothing_left a.m.now (a.at + a.i * 32) (omega (arith, c.if-m-at.true))
 
 -- src/listed.rt:13:9
-pub overflow_sub_if2 : goal.overflow_sub_if2
-overflow_sub_if2 c = search rules
+pub overflow_sub-m : goal.overflow_sub-m
+overflow_sub-m c = search rules
 
 -- src/listed.rt:14:9
 pub slice_bounds-result-end-then-m-at-2 : goal.slice_bounds-result-end-then-m-at-2
@@ -37,16 +37,12 @@ pub overflow_add-first : goal.overflow_add-first
 overflow_add-first c = search rules
 
 -- src/listed.rt:17:5
-pub overflow_sub_result : goal.overflow_sub_result
-overflow_sub_result c = search rules
+pub slice_bounds-result-count : goal.slice_bounds-result-count
+slice_bounds-result-count c = search rules
 
 -- src/listed.rt:17:5
 pub slice_bounds-result-start : goal.slice_bounds-result-start
 slice_bounds-result-start c = search rules
-
--- src/listed.rt:17:5
-pub slice_bounds-result-end : goal.slice_bounds-result-end
-slice_bounds-result-end c = search rules
 
 -- src/listed.rt:7:1
 pub returns : goal.returns

@@ -8,6 +8,6 @@ pub returns : goal.returns
 unfolding round
 returns c =
     let s = c.args.s in
-    let a : c.wrapping_add_u32.result ≡ T₁ c.args.k c.args.w (value_of s) ⊞ T₂ (value_of s) = c.wrapping_add_u32.ensures ∙ ap₂ ◌⊞◌ c.temp1-t1.ensures c.temp2-t2.ensures in
-    let e : c.wrapping_add_u32-2.result ≡ s.d ⊞ T₁ c.args.k c.args.w (value_of s) = c.wrapping_add_u32-2.ensures ∙ ap (λ (x : ℕ). s.d ⊞ x) c.temp1-t1.ensures in
+    let a : c.wrapping_add_u32.result ≡ T₁ c.args.k c.args.w (value_of s) ⊞ T₂ (value_of s) = c.wrapping_add_u32.ensures.value ∙ ap₂ ◌⊞◌ c.temp1-t1.ensures c.temp2-t2.ensures in
+    let e : c.wrapping_add_u32-2.result ≡ s.d ⊞ T₁ c.args.k c.args.w (value_of s) = c.wrapping_add_u32-2.ensures.value ∙ ap (λ (x : ℕ). s.d ⊞ x) c.temp1-t1.ensures in
     λ i. record { a = a i; b = s.a; c = s.b; d = s.c; e = e i; f = s.e; g = s.f; h = s.g }

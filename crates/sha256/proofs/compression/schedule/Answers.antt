@@ -6,7 +6,7 @@ use Rattle.sha256.proofs.compression.schedule.Goals as goal
 
 pub loop-t-init : goal.loop-t-init
 unfolding extend
-loop-t-init c = (omega arith, omega arith, search rules, c.Block-words.ensures)
+loop-t-init c = (omega arith, omega arith, search rules, c.block_words-w.ensures)
 
 pub loop-t-preserved : goal.loop-t-preserved
 loop-t-preserved c =

@@ -7,7 +7,7 @@ pub returns : goal.returns
 unfolding T₁
 returns c =
     let start = c.args in
-    c.wrapping_add_u32-2.ensures
-    ∙ ap (λ (x : ℕ). x ⊞ start.w) (c.wrapping_add_u32.ensures
-    ∙ ap (λ (x : ℕ). x ⊞ start.k) (c.wrapping_add_u32-y.ensures
-    ∙ ap₂ ◌⊞◌ (c.wrapping_add_u32-x.ensures ∙ ap (λ (x : ℕ). start.s.h ⊞ x) c.big_sigma1.ensures) c.choose.ensures))
+    c.wrapping_add_u32-2.ensures.value
+    ∙ ap (λ (x : ℕ). x ⊞ start.w) (c.wrapping_add_u32.ensures.value
+    ∙ ap (λ (x : ℕ). x ⊞ start.k) (c.wrapping_add_u32-y.ensures.value
+    ∙ ap₂ ◌⊞◌ (c.wrapping_add_u32-x.ensures.value ∙ ap (λ (x : ℕ). start.s.h ⊞ x) c.big_sigma1.ensures) c.choose.ensures))

@@ -5,4 +5,4 @@ use Rattle.sha256.proofs.compression.temp2.Goals as goal
 
 pub returns : goal.returns
 unfolding T₂
-returns c = c.wrapping_add_u32.ensures ∙ ap₂ ◌⊞◌ c.big_sigma0.ensures c.majority.ensures
+returns c = c.wrapping_add_u32.ensures.value ∙ ap₂ ◌⊞◌ c.big_sigma0.ensures c.majority.ensures

@@ -6,12 +6,6 @@ use Rattle.message.proofs.Order.{Small}
 use Rattle.table.proofs.Words.{word_less, word_more, word_same, no_word}
 use Rattle.table.proofs.compare.later_words_below.Goals as goal
 
-small-a : (c : goal.At-loop-at) → Small c.before.before.before.args.a.now
-small-a c k = omega (arith, c.type_inv.a k)
-
-small_b : (c : goal.At-loop-at) → Small c.before.before.before.args.b.now
-small_b c k = omega (arith, c.type_inv.b k)
-
 pub loop-at-init : goal.loop-at-init
 loop-at-init c =
     let a = c.args in
@@ -27,13 +21,17 @@ word-y-requires c = omega arith
 
 pub returns-then-x-y : goal.returns-then-x-y
 returns-then-x-y c =
+    let small-a : Small c.args.a.now = λ k. omega (arith, c.type_inv.a k) in
+    let small_b : Small c.args.b.now = λ k. omega (arith, c.type_inv.b k) in
     sym (c.loop-at.invariant.1
-    ∙ word_less _ _ c.loop-at.at (small-a c) (small_b c) (omega arith) (rw (← c.word-x.ensures, ← c.word-y.ensures) c.if-x-y.true))
+    ∙ word_less _ _ c.loop-at.at (small-a) (small_b) (omega arith) (rw (← c.word-x.ensures, ← c.word-y.ensures) c.if-x-y.true))
 
 pub returns-then-y-x : goal.returns-then-y-x
 returns-then-y-x c =
+    let small-a : Small c.args.a.now = λ k. omega (arith, c.type_inv.a k) in
+    let small_b : Small c.args.b.now = λ k. omega (arith, c.type_inv.b k) in
     sym (c.loop-at.invariant.1
-    ∙ word_more _ _ c.loop-at.at (small-a c) (small_b c) (omega arith) (rw (← c.word-x.ensures, ← c.word-y.ensures) c.if-y-x.true))
+    ∙ word_more _ _ c.loop-at.at (small-a) (small_b) (omega arith) (rw (← c.word-x.ensures, ← c.word-y.ensures) c.if-y-x.true))
 
 pub overflow_add-at : goal.overflow_add-at
 overflow_add-at c = omega arith
@@ -43,8 +41,10 @@ loop-at-smaller c = omega arith
 
 pub loop-at-preserved : goal.loop-at-preserved
 loop-at-preserved c =
+    let small-a : Small c.args.a.now = λ k. omega (arith, c.type_inv.a k) in
+    let small_b : Small c.args.b.now = λ k. omega (arith, c.type_inv.b k) in
     let same : c.word-x.result ≡ c.word-y.result = omega arith in
-    (omega arith, c.loop-at.invariant.1 ∙ word_same _ _ c.loop-at.at (small-a c) (small_b c) (omega arith) (sym c.word-x.ensures ∙ same ∙ c.word-y.ensures))
+    (omega arith, c.loop-at.invariant.1 ∙ word_same _ _ c.loop-at.at (small-a) (small_b) (omega arith) (sym c.word-x.ensures ∙ same ∙ c.word-y.ensures))
 
 pub returns : goal.returns
 returns c = sym (c.loop-at.invariant.1 ∙ no_word _ _ c.loop-at.at c.loop-at-test.false)

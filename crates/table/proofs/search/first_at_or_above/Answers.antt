@@ -15,55 +15,60 @@ use Rattle.table.proofs.Keys.{item-key}
 use Rattle.table.proofs.Places.{place-ends, place_same, above-item, not-above-item}
 use Rattle.table.proofs.search.first_at_or_above.Goals as goal
 
-abbrev table : goal.Start → Table
-table s = lent s.args.times.now s.args.ids.now
-
-abbrev middle : goal.At-loop-lo → ℕ
-middle h = h.loop-lo.lo + (h.loop-lo.hi - h.loop-lo.lo) / 2
-
-abbrev asked : goal.At-loop-lo → Bound
-asked h = finite h.time-time.result h.prefix-prefix.result.now
-
--- what the comparison at the middle tells
-compared : (c : goal.After-below) → c.below.result ≡ ltb (key_of (item_at (table c.before.before.before.before.before.before.before.before.before.before) (middle c.before.before.before.before))) (key (asked c.before.before.before.before))
-compared c = rw (← item-key (table c) (middle c)) c.below.ensures
-
 pub loop-lo-init : goal.loop-lo-init
-loop-lo-init c = (omega arith, place-ends _ (table c), omega arith)
+loop-lo-init c =
+    let table : Table = lent c.args.times.now c.args.ids.now in
+    (omega arith, place-ends _ (table), omega arith)
 
 pub overflow_mul-p : goal.overflow_mul-p
-overflow_mul-p c = omega (arith, (right_size (table c) c.requires.0).1)
+overflow_mul-p c =
+    let table : Table = lent c.args.times.now c.args.ids.now in
+    omega (arith, (right_size (table) c.requires.0).1)
 
-pub overflow_mul_below : goal.overflow_mul_below
-overflow_mul_below c =
-    omega (arith, (right_size (table c.before.before.before.before.before.before.before) c.before.before.before.before.before.before.before.requires.0).1)
+pub offset_bounds-times-mid : goal.offset_bounds-times-mid
+offset_bounds-times-mid c =
+    let table : Table = lent c.args.times.now c.args.ids.now in
+    omega (arith, (right_size (table) c.requires.0).1)
 
-pub overflow_sub_below : goal.overflow_sub_below
-overflow_sub_below c =
-    omega (arith, (right_size (table c.before.before.before.before.before.before.before.before) c.before.before.before.before.before.before.before.before.requires.0).0)
+pub slice_bounds-below-count : goal.slice_bounds-below-count
+slice_bounds-below-count c =
+    let table : Table = lent c.args.times.now c.args.ids.now in
+    omega (arith, (right_size (table) c.requires.0).0)
 
 pub slice_bounds-below-start : goal.slice_bounds-below-start
 slice_bounds-below-start c =
-    let r = right_size (table c) c.requires.0 in
+    let table : Table = lent c.args.times.now c.args.ids.now in
+    let r = right_size (table) c.requires.0 in
     search rules
 
 pub slice_bounds-below-end : goal.slice_bounds-below-end
 slice_bounds-below-end c =
-    let r = right_size (table c) c.requires.0 in
+    let table : Table = lent c.args.times.now c.args.ids.now in
+    let r = right_size (table) c.requires.0 in
     search rules
 
 pub loop-lo-preserved-then-below : goal.loop-lo-preserved-then-below
 loop-lo-preserved-then-below c =
-    let w = above-item (table c) c.requires (asked c) (middle c) (omega arith) (ltb-true _ _ (rw (← compared c) c.if-below.true)) in
+    let table : Table = lent c.args.times.now c.args.ids.now in
+    let middle : ℕ = c.loop-lo.lo + (c.loop-lo.hi - c.loop-lo.lo) / 2 in
+    let asked : Bound = finite c.time-time.result c.prefix-prefix.result.now in
+    let compared : c.below.result ≡ ltb (key_of (item_at (table) (middle))) (key (asked)) = rw (← item-key (table) (middle)) c.below.ensures in
+    let w = above-item (table) c.requires (asked) (middle) (omega arith) (ltb-true _ _ (rw (← compared) c.if-below.true)) in
     (omega arith, c.loop-lo.invariant.1, c.loop-lo.invariant.2)
 
 pub loop-lo-preserved : goal.loop-lo-preserved
 loop-lo-preserved c =
-    (c.loop-lo.invariant.0, not-above-item (table c) c.requires (asked c) (middle c) (omega arith) (ltb-false _ _ (rw (← compared c) c.if-below.false)), omega arith)
+    let table : Table = lent c.args.times.now c.args.ids.now in
+    let middle : ℕ = c.loop-lo.lo + (c.loop-lo.hi - c.loop-lo.lo) / 2 in
+    let asked : Bound = finite c.time-time.result c.prefix-prefix.result.now in
+    let compared : c.below.result ≡ ltb (key_of (item_at (table) (middle))) (key (asked)) = rw (← item-key (table) (middle)) c.below.ensures in
+    (c.loop-lo.invariant.0, not-above-item (table) c.requires (asked) (middle) (omega arith) (ltb-false _ _ (rw (← compared) c.if-below.false)), omega arith)
 
 pub returns : goal.returns
 returns c =
+    let table : Table = lent c.args.times.now c.args.ids.now in
+    let asked : Bound = finite c.time-time.result c.prefix-prefix.result.now in
     let a = c.args in
-    let at : c.loop-lo.lo ≡ place_of (asked c) (items (table c)) = omega arith in
+    let at : c.loop-lo.lo ≡ place_of (asked) (items (table)) = omega arith in
     let same = key_is a.bound a.beside.now _ _ c.time-time.ensures c.prefix-prefix.ensures in
-    (at ∙ place_same (asked c) _ (items (table c)) same, omega arith)
+    (at ∙ place_same (asked) _ (items (table)) same, omega arith)

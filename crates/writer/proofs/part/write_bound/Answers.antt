@@ -6,14 +6,6 @@ use borrow.Author.Rules.{rules}
 use Rattle.writer.proofs.Parts.{bound-room, bound-laid}
 use Rattle.writer.proofs.part.write_bound.Goals as goal
 
--- there is room for the three parts
-fits : (c : goal.After-width) → c.before.width.result + c.width2.result + length c.before.before.prefix.result.now ≤ length c.before.before.before.before.before.before.args.out.now
-fits c = 
-    let a = c.args in
-    let size = bound-room _ _ _ _ a.bound a.beside.now _ c.requires.0 c.requires.1
-    c.time_code-code.ensures c.prefix-prefix.ensures c.width-first.ensures c.width.ensures in
-    omega (arith, size, c.requires.2)
-
 pub returns : goal.returns
 returns c =
     let a = c.args in
@@ -22,27 +14,53 @@ returns c =
     c.write_varint.ensures.out_after c.write_varint-2.ensures.out_after c.write_bytes.ensures
 
 pub overflow_add-both : goal.overflow_add-both
-overflow_add-both c = omega (arith, fits c)
+overflow_add-both c =
+    let fits : c.width-first.result + c.width.result + length c.prefix-prefix.result.now ≤ length c.args.out.now = let a = c.args in
+    let size = bound-room _ _ _ _ a.bound a.beside.now _ c.requires.0 c.requires.1
+    c.time_code-code.ensures c.prefix-prefix.ensures c.width-first.ensures c.width.ensures in
+    omega (arith, size, c.requires.2) in
+    omega (arith, fits)
 
 pub slice_bounds-write_varint-count : goal.slice_bounds-write_varint-count
-slice_bounds-write_varint-count c = omega (arith, fits c)
+slice_bounds-write_varint-count c =
+    let fits : c.width-first.result + c.width.result + length c.prefix-prefix.result.now ≤ length c.args.out.now = let a = c.args in
+    let size = bound-room _ _ _ _ a.bound a.beside.now _ c.requires.0 c.requires.1
+    c.time_code-code.ensures c.prefix-prefix.ensures c.width-first.ensures c.width.ensures in
+    omega (arith, size, c.requires.2) in
+    omega (arith, fits)
 
 pub slice_bounds-write_varint-start : goal.slice_bounds-write_varint-start
 slice_bounds-write_varint-start c =
-    let room = fits c in
+    let fits : c.width-first.result + c.width.result + length c.prefix-prefix.result.now ≤ length c.args.out.now = let a = c.args in
+    let size = bound-room _ _ _ _ a.bound a.beside.now _ c.requires.0 c.requires.1
+    c.time_code-code.ensures c.prefix-prefix.ensures c.width-first.ensures c.width.ensures in
+    omega (arith, size, c.requires.2) in
+    let room = fits in
     search rules
 
 pub slice_bounds-write_bytes-count : goal.slice_bounds-write_bytes-count
 slice_bounds-write_bytes-count c =
-    let room = fits c in
+    let fits : c.width-first.result + c.width.result + length c.prefix-prefix.result.now ≤ length c.args.out.now = let a = c.args in
+    let size = bound-room _ _ _ _ a.bound a.beside.now _ c.requires.0 c.requires.1
+    c.time_code-code.ensures c.prefix-prefix.ensures c.width-first.ensures c.width.ensures in
+    omega (arith, size, c.requires.2) in
+    let room = fits in
     search rules
 
 pub slice_bounds-write_bytes-start : goal.slice_bounds-write_bytes-start
 slice_bounds-write_bytes-start c =
-    let room = fits c in
+    let fits : c.width-first.result + c.width.result + length c.prefix-prefix.result.now ≤ length c.args.out.now = let a = c.args in
+    let size = bound-room _ _ _ _ a.bound a.beside.now _ c.requires.0 c.requires.1
+    c.time_code-code.ensures c.prefix-prefix.ensures c.width-first.ensures c.width.ensures in
+    omega (arith, size, c.requires.2) in
+    let room = fits in
     search rules
 
 pub write_bytes-requires : goal.write_bytes-requires
 write_bytes-requires c =
-    let room = fits c in
+    let fits : c.width-first.result + c.width.result + length c.prefix-prefix.result.now ≤ length c.args.out.now = let a = c.args in
+    let size = bound-room _ _ _ _ a.bound a.beside.now _ c.requires.0 c.requires.1
+    c.time_code-code.ensures c.prefix-prefix.ensures c.width-first.ensures c.width.ensures in
+    omega (arith, size, c.requires.2) in
+    let room = fits in
     search rules

@@ -7,16 +7,16 @@ use Rattle.writer.proofs.Sizes.{prefix-fits}
 use Rattle.writer.proofs.Parts.{range-laid}
 use Rattle.writer.proofs.part.write_range.Goals as goal
 
-whole : (c : goal.Start) → length c.args.range.prefix ≡ 32
-whole c = search rules
-
 pub write_bound-requires : goal.write_bound-requires
-write_bound-requires c = (c.requires.0, omega (arith, whole c), omega (arith, c.requires.2))
+write_bound-requires c =
+    let whole : length c.args.range.prefix ≡ 32 = search rules in
+    (c.requires.0, omega (arith, whole), omega (arith, c.requires.2))
 
 pub returns : goal.returns
 returns c =
+    let whole : length c.args.range.prefix ≡ 32 = search rules in
     let size = c.bound_size-first in
     let a = c.args in
-    let small = prefix-fits a.range.bound a.range.prefix c.requires.0 (omega (arith, whole c)) in
+    let small = prefix-fits a.range.bound a.range.prefix c.requires.0 (omega (arith, whole)) in
     range-laid a.last size.result a.range a.source.now a.out.now c.write_bound.new.out c.write_payload.new.out
     size.ensures.0 small c.requires.1 c.requires.2 c.write_bound.ensures c.write_payload.ensures

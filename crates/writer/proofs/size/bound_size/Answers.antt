@@ -11,10 +11,10 @@ returns-in-At c =
     size_at _ _ _ _ _ _ _ c.in-At.is c.requires c.time_code.ensures c.width-code.ensures c.width-length.ensures
 
 pub overflow_add-result : goal.overflow_add-result
-overflow_add-result c = omega (arith, returns c)
+overflow_add-result c = omega (arith, returns-in-Infinity c)
 
 pub overflow_add-result-in-At : goal.overflow_add-result-in-At
-overflow_add-result-in-At c = omega (arith, returns-2 c)
+overflow_add-result-in-At c = omega (arith, returns-in-At c)
 
 pub overflow_add-result-in-At-2 : goal.overflow_add-result-in-At-2
-overflow_add-result-in-At-2 c = omega (arith, returns-2 c)
+overflow_add-result-in-At-2 c = omega (arith, returns-in-At c)

@@ -8,7 +8,7 @@ use Rattle.writer.proofs.varint.write_varint.Given as goal
 
 abbrev pub invariant-loop-i : goal.invariant-loop-i
 invariant-loop-i l =
-    (l.initial.q ≡ digit_count 10 l.q) × (l.q < 2 ^ 57) × (l.initial.q < length l.i) × (length l.i ≡ length l.initial.out) × (digits_before 10 l.q (drop l.initial.q l.i) ≡ spell_varint l.out ++ drop l.v l.initial.out)
+    (l.i ≡ digit_count 10 l.q) × (l.q < 2 ^ 57) × (l.i < length l.out) × (length l.out ≡ length l.initial.out) × (digits_before 10 l.q (drop l.i l.out) ≡ spell_varint l.v ++ drop l.n l.initial.out)
 
 abbrev pub decreases-loop-i : goal.decreases-loop-i
-decreases-loop-i l = l.initial.q
+decreases-loop-i l = l.i

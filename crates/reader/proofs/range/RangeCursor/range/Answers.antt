@@ -23,13 +23,11 @@ slice_bounds-pad-end c =
 
 pub pad-prefix-requires : goal.pad-prefix-requires
 pad-prefix-requires c =
-    let n = c.time-1.given in
     let x = rw c.in-At.is at c.bound.ensures.1 in
     omega (arith, part_length c.args.m.now c.in-At.at c.in-At.len (omega arith))
 
 pub with_payload-requires-in-At : goal.with_payload-requires-in-At
 with_payload-requires-in-At c =
-    let n = c.time-1.given in
     let x = rw c.in-At.is at c.bound.ensures.1 in
     (x.2, part-padded c.args.m.now c.in-At.at c.in-At.len (omega arith) _ c.pad-prefix.ensures)
 
@@ -49,7 +47,6 @@ returns-in-Infinity c =
 pub returns-in-At : goal.returns-in-At
 unfolding read_range
 returns-in-At c =
-    let n = c.time-1.given in
     let x = rw c.in-At.is at c.bound.ensures in
     let e = part-kept c.args.m.now c.in-At.at c.in-At.len (omega arith) _ c.pad-prefix.ensures in
     (onward _ x.0 (rw e at c.with_payload-in-At.ensures.0), c.with_payload-in-At.ensures.1)

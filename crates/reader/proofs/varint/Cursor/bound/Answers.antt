@@ -9,7 +9,6 @@ use Rattle.reader.proofs.varint.Cursor.bound.Goals as goal
 pub returns-then-below : goal.returns-then-below
 returns-then-below c =
     let a = c.args in
-    let n = c.next-1.given in
     let x = rw c.in-Infinity.is at c.uncompared.ensures in
     let rest = drop c.in-Infinity.next.at a.m.now in
     let p = c.prefix-prefix.ensures in
@@ -21,15 +20,9 @@ overflow_add-end c =
     let x = rw c.in-At.is at c.uncompared.ensures.1 in
     omega arith
 
-pub slice_bounds-below-end : goal.slice_bounds-below-end
-slice_bounds-below-end c =
-    let x = rw c.before.time2.given.1 at c.uncompared.ensures.1 in
-    omega arith
-
 pub returns-then-below-2 : goal.returns-then-below-2
 returns-then-below-2 c =
     let a = c.args in
-    let n = c.time-1.given in
     let x = rw c.in-At.is at c.uncompared.ensures in
     let u = finite c.in-At.time (take c.in-At.len (drop c.in-At.at a.m.now)) in
     let rest = drop c.in-At.next.at a.m.now in
@@ -47,7 +40,6 @@ returns-in-Refused c =
 pub returns-else-below : goal.returns-else-below
 returns-else-below c =
     let a = c.args in
-    let n = c.next-1.given in
     let x = rw c.in-Infinity.is at c.uncompared.ensures.0 in
     let rest = drop c.in-Infinity.next.at a.m.now in
     let p = c.prefix-prefix.ensures in
@@ -57,7 +49,6 @@ returns-else-below c =
 pub returns-else-below-2 : goal.returns-else-below-2
 returns-else-below-2 c =
     let a = c.args in
-    let n = c.time-1.given in
     let x = rw c.in-At.is at c.uncompared.ensures.0 in
     let u = finite c.in-At.time (take c.in-At.len (drop c.in-At.at a.m.now)) in
     let rest = drop c.in-At.next.at a.m.now in

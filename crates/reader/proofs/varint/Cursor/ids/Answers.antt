@@ -13,7 +13,6 @@ overflow_sub-room c = rw c.in-Value.is at c.varint.ensures.1
 pub returns-then-room-count : goal.returns-then-room-count
 unfolding read_of_mode
 returns-then-room-count c =
-    let g = c.value-1.given in
     let v = rw c.in-Value.is at c.varint.ensures in
     let i = ids-end c.in-Value.value c.in-Value.next.at c.args.m.now (omega arith) in
     (onward _ v.0 (onward _ i refl), tt)
@@ -27,7 +26,6 @@ returns-in-Refused c =
 pub returns-else-room-count : goal.returns-else-room-count
 unfolding read_of_mode
 returns-else-room-count c =
-    let g = c.value-1.given in
     let v = rw c.in-Value.is at c.varint.ensures in
     let i = ids-read c.in-Value.value c.in-Value.next.at c.args.m.now (omega arith) in
     (onward _ v.0 (onward _ i refl), (refl, omega arith))

@@ -33,5 +33,5 @@ pub returns-in_default : goal.returns-in_default
 unfolding read_payload
 returns-in_default c =
     let v = rw c.in-Value.is at c.varint.ensures in
-    let r = c.in_default.rest in
+    let r = c.in_default.in_default-own.rest in
     (onward _ v.0 (mode_other _ _ r.0.0.1 r.0.1 r.1), tt)

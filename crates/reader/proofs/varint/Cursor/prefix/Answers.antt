@@ -13,15 +13,12 @@ returns-then-most-value c =
     (onward _ v.0 (prefix-long _ _ _ c.if-most-value.true), tt)
 
 -- the varint ends inside the message
-pub overflow_sub_if2 : goal.overflow_sub_if2
-overflow_sub_if2 c =
-    let h = c.before.before in
-    rw h.value.given.1 at h.before.before.varint.ensures.1
+pub overflow_sub-m : goal.overflow_sub-m
+overflow_sub-m c = rw c.in-Value.is at c.varint.ensures.1
 
 pub returns-then-m-at : goal.returns-then-m-at
 unfolding read_prefix
 returns-then-m-at c =
-    let g = c.value-1.given in
     let v = rw c.in-Value.is at c.varint.ensures in
     let b = bytes-end c.in-Value.value c.in-Value.next.at c.args.m.now c.if-m-at.true in
     (onward _ v.0 (prefix-fits _ _ _ c.if-most-value.false b), tt)
@@ -35,7 +32,6 @@ returns-in-Refused c =
 pub returns-else-m-at : goal.returns-else-m-at
 unfolding read_prefix
 returns-else-m-at c =
-    let g = c.value-1.given in
     let v = rw c.in-Value.is at c.varint.ensures in
     let b = bytes_read c.in-Value.value c.in-Value.next.at c.args.m.now c.if-m-at.false in
     (onward _ v.0 (prefix-fits _ _ _ c.if-most-value.false b), (refl, omega arith, c.if-most-value.false))

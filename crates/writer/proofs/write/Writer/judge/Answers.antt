@@ -3,42 +3,51 @@ use mathlib.Core.Path.{◌≡◌, sym, ◌∙◌}
 use mathlib.Core.Bool.{true}
 use native.Mathlib.Omega.{arith}
 use lib.ListN.{length}
-use borrow.Author.Tests.{not-true, not-false}
 use Rattle.writer.specs.Writing.{inside, bounds_fit}
 use Rattle.writer.proofs.Sizes.{judged-payload}
 use Rattle.writer.proofs.Steps.{fit-lawful, bad_bound, truncated, no_room, fits}
 use Rattle.writer.proofs.write.Writer.judge.Goals as goal
 
--- ---- what the tests told
-good-bounds : (c : goal.Else-not-bounds_fit) → let a = c.before.before.before.args in bounds_fit a.self a.range ≡ true
-good-bounds c = sym c.bounds_fit.ensures ∙ not-false _ c.if-not-bounds_fit.false
-
--- the entry
-abbrev entry : goal.Else-not-is_inside → goal.Start
-entry c = c
-
-stands-inside : (c : goal.Else-not-is_inside) → let a = (entry c).args in inside a.range.payload (length a.source.now) ≡ true
-stands-inside c = sym c.is_inside.ensures ∙ not-false _ c.if-not-is_inside.false
-
 -- ---- the needs
 pub returns-then-not-bounds_fit : goal.returns-then-not-bounds_fit
-returns-then-not-bounds_fit c = bad_bound _ _ _ _ (sym c.bounds_fit.ensures ∙ not-true _ c.if-not-bounds_fit.true)
+returns-then-not-bounds_fit c = bad_bound _ _ _ _ (sym c.bounds_fit.ensures ∙ c.if-not-bounds_fit.true)
 
 pub returns-then-not-is_inside : goal.returns-then-not-is_inside
 returns-then-not-is_inside c =
-    truncated _ _ _ _ (good-bounds c) (sym c.is_inside.ensures ∙ not-true _ c.if-not-is_inside.true)
+    let good-bounds : let a = c.args in
+    bounds_fit a.self a.range ≡ true = sym c.bounds_fit.ensures ∙ c.if-not-bounds_fit.false in
+    truncated _ _ _ _ (good-bounds) (sym c.is_inside.ensures ∙ c.if-not-is_inside.true)
 
 pub more_size-n-requires : goal.more_size-n-requires
 more_size-n-requires c =
-    let a = (entry c).args in
-    let each = fit-lawful a.self a.range (good-bounds c) in
-    (each.0, each.1, judged-payload a.range.payload (length a.source.now) (stands-inside c))
+    let good-bounds : let a = c.args in
+    bounds_fit a.self a.range ≡ true = sym c.bounds_fit.ensures ∙ c.if-not-bounds_fit.false in
+    let stands-inside : let a = c.args in
+    inside a.range.payload (length a.source.now) ≡ true = sym c.is_inside.ensures ∙ c.if-not-is_inside.false in
+    let a = c.args in
+    let each = fit-lawful a.self a.range (good-bounds) in
+    (each.0, each.1, judged-payload a.range.payload (length a.source.now) (stands-inside))
 
 pub returns-then-size-at : goal.returns-then-size-at
-returns-then-size-at c = no_room _ _ _ _ _ c.more_size-n.ensures (good-bounds c) (stands-inside c) (omega arith)
+returns-then-size-at c =
+    let good-bounds : let a = c.args in
+    bounds_fit a.self a.range ≡ true = sym c.bounds_fit.ensures ∙ c.if-not-bounds_fit.false in
+    let stands-inside : let a = c.args in
+    inside a.range.payload (length a.source.now) ≡ true = sym c.is_inside.ensures ∙ c.if-not-is_inside.false in
+    no_room _ _ _ _ _ c.more_size-n.ensures (good-bounds) (stands-inside) (omega arith)
 
 pub returns-then-size-at-2 : goal.returns-then-size-at-2
-returns-then-size-at-2 c = no_room _ _ _ _ _ c.more_size-n.ensures (good-bounds c) (stands-inside c) (omega arith)
+returns-then-size-at-2 c =
+    let good-bounds : let a = c.args in
+    bounds_fit a.self a.range ≡ true = sym c.bounds_fit.ensures ∙ c.if-not-bounds_fit.false in
+    let stands-inside : let a = c.args in
+    inside a.range.payload (length a.source.now) ≡ true = sym c.is_inside.ensures ∙ c.if-not-is_inside.false in
+    no_room _ _ _ _ _ c.more_size-n.ensures (good-bounds) (stands-inside) (omega arith)
 
 pub returns : goal.returns
-returns c = fits _ _ _ _ _ c.more_size-n.ensures (good-bounds c) (stands-inside c) (omega arith)
+returns c =
+    let good-bounds : let a = c.args in
+    bounds_fit a.self a.range ≡ true = sym c.bounds_fit.ensures ∙ c.if-not-bounds_fit.false in
+    let stands-inside : let a = c.args in
+    inside a.range.payload (length a.source.now) ≡ true = sym c.is_inside.ensures ∙ c.if-not-is_inside.false in
+    fits _ _ _ _ _ c.more_size-n.ensures (good-bounds) (stands-inside) (omega arith)

@@ -10,15 +10,12 @@ use Rattle.writer.proofs.Sizes.{prefix-fits}
 use Rattle.writer.proofs.Steps.{pending_none, pending_length}
 use Rattle.writer.proofs.write.Writer.pending_size.Goals as goal
 
-small : (c : goal.Start) → length_of c.args.self.bound ≤ length c.args.self.prefix
-small c = 
-    let whole : length c.args.self.prefix ≡ 32 = search rules in
-    prefix-fits c.args.self.bound c.args.self.prefix c.requires (omega arith)
-
 pub returns-then-self : goal.returns-then-self
 unfolding payload_size
 returns-then-self c =
-    let size = pending_length c.args.self c.if-self.true (small c) in
+    let small : length_of c.args.self.bound ≤ length c.args.self.prefix = let whole : length c.args.self.prefix ≡ 32 = search rules in
+    prefix-fits c.args.self.bound c.args.self.prefix c.requires (omega arith) in
+    let size = pending_length c.args.self c.if-self.true (small) in
     (omega (arith, c.bound_size.ensures.0), omega (arith, c.bound_size.ensures.1))
 
 pub returns : goal.returns

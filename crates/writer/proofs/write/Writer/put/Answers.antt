@@ -9,12 +9,10 @@ returns-in-Measure c =
     let told = c.in-Measure.is in
     let size = length-replicate {A = ℕ} c.in-Measure.size 0 in
     let m = c.measure.ensures in
-    let both = (rw (told, size) m.written_value, (rw (told, size) m.next_value, rw told refl)) in
-    record { written_value = both.0; next_value = both.1; out_after = both.2 }
+    record { written_value = rw (told, size) m.written_value; next_value = rw (told, size) m.next_value; out_after = rw told refl }
 
 pub returns-in-Write : goal.returns-in-Write
 returns-in-Write c =
     let told = c.in-Write.is in
     let w = c.write.ensures in
-    let both = (rw told w.written_value, (rw told w.next_value.0, rw told w.next_value.1)) in
-    record { written_value = both.0; next_value = both.1; out_after = both.2 }
+    record { written_value = rw told w.written_value; next_value = rw told w.next_value; out_after = rw told w.out_after }

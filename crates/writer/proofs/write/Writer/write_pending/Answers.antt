@@ -10,14 +10,11 @@ use Rattle.writer.proofs.Laying.{lay-fits}
 use Rattle.writer.proofs.Steps.{pending_none, pending_is, pending_length}
 use Rattle.writer.proofs.write.Writer.write_pending.Goals as goal
 
-small : (c : goal.Start) → length_of c.args.self.bound ≤ length c.args.self.prefix
-small c = 
-    let whole : length c.args.self.prefix ≡ 32 = search rules in
-    prefix-fits c.args.self.bound c.args.self.prefix c.requires.0 (omega arith)
-
 pub write_range-requires : goal.write_range-requires
 write_range-requires c =
-    let size = pending_length c.args.self c.if-self.true (small c) in
+    let small : length_of c.args.self.bound ≤ length c.args.self.prefix = let whole : length c.args.self.prefix ≡ 32 = search rules in
+    prefix-fits c.args.self.bound c.args.self.prefix c.requires.0 (omega arith) in
+    let size = pending_length c.args.self c.if-self.true (small) in
     (c.requires.0, tt, omega (arith, size, c.requires.1))
 
 pub returns-then-self : goal.returns-then-self

@@ -57,8 +57,9 @@ module _ (A B : Table) (a b : Cut) where
     row_done {p} ρ n row (t ∷ ts) h r many =
         by_answer (call A B a b p t).answer
         (λ k e. let count = ap one e in
-        row_done (then_taken ρ t k e (h.0 k e).0 (h.0 k e).1) (suc n) (r.0 k e, row) ts h.1 r.1 (omega arith))
-        (λ k e. let count = ap one e in row_done (then_refused ρ t k e) n (refused_row n k e row) ts h.1 r.1 (omega arith))
+        row_done {p = next A B a b p t} (then_taken ρ t k e (h.0 k e).0 (h.0 k e).1) (suc n) (r.0 k e, row) ts h.1 r.1 (omega arith))
+        (λ k e. let count = ap one e in
+        row_done {p = next A B a b p t} (then_refused ρ t k e) n (refused_row n k e row) ts h.1 r.1 (omega arith))
       where
         refused_row : (n k : ℕ) (e : (call A B a b p t).answer ≡ refused k) → Row itself taking Answering n ρ → Row itself taking Answering n (then_refused ρ t k e)
         refused_row zero k e row = tt
@@ -73,8 +74,8 @@ module _ (A B : Table) (a b : Cut) where
     throughout {p} ρ (t ∷ ts) h = (
       owed ρ (t ∷ ts) h,
       by_answer (call A B a b p t).answer
-          (λ n e. throughout (then_taken ρ t n e (h.0 n e).0 (h.0 n e).1) ts h.1)
-          (λ k e. throughout (then_refused ρ t k e) ts h.1),
+          (λ n e. throughout {p = next A B a b p t} (then_taken ρ t n e (h.0 n e).0 (h.0 n e).1) ts h.1)
+          (λ k e. throughout {p = next A B a b p t} (then_refused ρ t k e) ts h.1),
     )
 
   -- ---- the calls
@@ -133,8 +134,8 @@ module _ (A B : Table) (a b : Cut) where
     after-takes ρ [] h = ρ
     after-takes {p} ρ (t ∷ ts) h =
         by_answer (call A B a b p t).answer
-        (λ n e. after-takes (then_taken ρ t n e (h.0 n e).0 (h.0 n e).1) ts h.1)
-        (λ k e. after-takes (then_refused ρ t k e) ts h.1)
+        (λ n e. after-takes {p = next A B a b p t} (then_taken ρ t n e (h.0 n e).0 (h.0 n e).1) ts h.1)
+        (λ k e. after-takes {p = next A B a b p t} (then_refused ρ t k e) ts h.1)
 
     pub reported-after : (ts : List Take) → HandedAnswers A B a b o ts → Reported A B (run A B a b o ts)
     reported-after ts h = all_reported (run A B a b o ts) (after-takes none ts h)

@@ -60,18 +60,18 @@ module _ {X : Type 0} (handed : X → Take) (call : X → Lent → Result Lent) 
   pub all_whole : {o p : Place} (n : ℕ) (ρ : Run handed call Allowed o p) → Row handed call Allowed n ρ → Whole handed call Allowed (Unit {0}) (λ x. Unit {0}) (λ x. Unit {0}) n ρ
   all_whole zero none h = tt
   all_whole (suc n) none h = h
-  all_whole zero (then_refused ρ x k e) h = all_whole zero ρ tt
-  all_whole (suc n) (then_refused ρ x k e) h = all_whole (suc n) ρ h
+  all_whole {o = o} zero (then_refused {p = p} ρ x k e) h = all_whole {o = o} {p = p} zero ρ tt
+  all_whole {o = o} (suc n) (then_refused {p = p} ρ x k e) h = all_whole {o = o} {p = p} (suc n) ρ h
   all_whole zero (then_taken ρ x m e mem g) h = tt
-  all_whole (suc n) (then_taken ρ x m e mem g) h = (all_whole n ρ h.1, tt, tt)
+  all_whole {o = o} (suc n) (then_taken {p = p} ρ x m e mem g) h = (all_whole {o = o} {p = p} n ρ h.1, tt, tt)
 
   -- a row of more takes has a row of fewer at its end
   pub row_fewer : {o p : Place} (m n : ℕ) (ρ : Run handed call Allowed o p) → m ≤ n → Row handed call Allowed n ρ → Row handed call Allowed m ρ
   row_fewer zero n ρ h row = tt
   row_fewer (suc m) zero ρ h row = absurd (omega arith)
   row_fewer (suc m) (suc n) none h row = row
-  row_fewer (suc m) (suc n) (then_refused ρ x k e) h row = row_fewer (suc m) (suc n) ρ h row
-  row_fewer (suc m) (suc n) (then_taken ρ x k e mem g) h row = (row.0, row_fewer m n ρ (omega arith) row.1)
+  row_fewer {o = o} (suc m) (suc n) (then_refused {p = p} ρ x k e) h row = row_fewer {o = o} {p = p} (suc m) (suc n) ρ h row
+  row_fewer {o = o} (suc m) (suc n) (then_taken {p = p} ρ x k e mem g) h row = (row.0, row_fewer {o = o} {p = p} m n ρ (omega arith) row.1)
 
 module _ {X : Type 0} (handed : X → Take) (call : X → Lent → Result Lent) (Allowed : X → Type 0) (A B : Table) (a : Cut) where
   -- What is asked for true and complete reports: a refused take leaves all as it was; an unrefused take does what `Took` asks with the ranges that its reply

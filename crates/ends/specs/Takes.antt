@@ -35,8 +35,8 @@ module _ {X : Type 0} (handed : X → Take) (call : X → Lent → Result Lent) 
   abbrev pub Row : {o p : Place} → ℕ → Run o p → Type 0
   Row zero ρ = Unit {0}
   Row (suc n) none = ⊥
-  Row (suc n) (then_refused ρ x k e) = Row (suc n) ρ
-  Row (suc n) (then_taken {p = p} ρ x m e asked allowed) = ((old : List (List ℕ)) × (p.sent ≡ (handed x).query ∷ old)) × Row n ρ
+  Row {o = o} (suc n) (then_refused {p = p} ρ x k e) = Row {o = o} {p = p} (suc n) ρ
+  Row {o = o} (suc n) (then_taken {p = p} ρ x m e asked allowed) = ((old : List (List ℕ)) × (p.sent ≡ (handed x).query ∷ old)) × Row {o = o} {p = p} n ρ
 
   -- An end may cut its message short. `WholeFirst`, `WholeReply` and `WholeQuery` say that the first query, the reply that a take was handed and the query that it
   -- came to were not.
@@ -46,10 +46,10 @@ module _ {X : Type 0} (handed : X → Take) (call : X → Lent → Result Lent) 
     abbrev pub Whole : {o p : Place} → ℕ → Run o p → Type 0
     Whole zero none = WholeFirst
     Whole (suc n) none = ⊥
-    Whole zero (then_refused ρ x k e) = Whole zero ρ
-    Whole (suc n) (then_refused ρ x k e) = Whole (suc n) ρ
+    Whole {o = o} zero (then_refused {p = p} ρ x k e) = Whole {o = o} {p = p} zero ρ
+    Whole {o = o} (suc n) (then_refused {p = p} ρ x k e) = Whole {o = o} {p = p} (suc n) ρ
     Whole zero (then_taken ρ x m e asked allowed) = WholeQuery x
-    Whole (suc n) (then_taken ρ x m e asked allowed) = Whole n ρ × WholeReply x × WholeQuery x
+    Whole {o = o} (suc n) (then_taken {p = p} ρ x m e asked allowed) = Whole {o = o} {p = p} n ρ × WholeReply x × WholeQuery x
 
     -- What is owed at a place, ρ being the list up to it, A the opener's table and B the responder's.
     pub record Owed (A B : Table) (L : ℕ) {o p : Place} (ρ : Run o p) : Type 0 where

@@ -1,7 +1,7 @@
 -- Ids of a list marked, those without a mark kept, window by window.
 use Prim.Native.Nat.{ℕ, zero, suc, ◌+◌, ◌*◌, ◌-◌, ◌≤◌, ◌<◌}
 use mathlib.Core.Path.{◌≡◌, refl, sym, ap, ◌∙◌}
-use mathlib.Core.Bool.{Bool, true, false, cond, not, ◌||◌, or_false}
+use mathlib.Core.Bool.{Bool, true, false, cond, not, ◌||◌, or-false}
 use mathlib.Core.List.{List, [], ◌∷◌, ◌++◌, flatten, append_assoc, append-nil}
 use mathlib.Core.Logic.{⊎_elim}
 use native.Mathlib.Omega.{arith}
@@ -42,7 +42,7 @@ same_sym d e =
 
 some-last : (d u : List ℕ) (us : List (List ℕ)) → some (same d) (us ++ (u ∷ [])) ≡ (some (same d) us || same d u)
 unfolding some
-some-last d u [] = or_false (same d u)
+some-last d u [] = or-false (same d u)
 some-last d u (x ∷ us) = by_test (same d x) (λ e. rw e refl) (λ e. rw e (some-last d u us))
 
 pub named_none : (ds : List (List ℕ)) → named [] ds ≡ replicate (length ds) 0
@@ -67,7 +67,7 @@ missing u us [] e = refl
 missing u us (d ∷ ds) e =
     by_test (same u d)
     (λ p. let z : true ≡ false = rw p at e in absurd (let y : ◌≡◌ {A = ℕ} 0 1 = cc in omega arith))
-    (λ p. rw (some-last d u us, same_sym d u, p, or_false (some (same d) us)) (ap (λ (l : List ℕ). cond (some (same d) us) 1 0 ∷ l) (missing u us ds (rw p at e))))
+    (λ p. rw (some-last d u us, same_sym d u, p, or-false (some (same d) us)) (ap (λ (l : List ℕ). cond (some (same d) us) 1 0 ∷ l) (missing u us ds (rw p at e))))
 
 -- u is below the first of the ids, or above the last of them
 below-first : (u : List ℕ) (d : List ℕ) (ds : List (List ℕ)) → rising (numbers (d ∷ ds)) ≡ true → big_endian 32 u < big_endian 32 d → some (same u) (d ∷ ds) ≡ false
@@ -121,7 +121,7 @@ found_from lo u us (d ∷ ds) zero a h e =
 found_from lo u us (d ∷ ds) (suc p) a h e =
     let b : suc (big_endian 32 d) ≤ get_or (numbers ds) p (big_endian 32 []) = ascends_above (suc (big_endian 32 d)) (numbers ds) p (big_endian 32 []) a.1 (rw (length-map ds (big_endian 32)) (omega arith)) in
     let c : get_or (numbers ds) p (big_endian 32 []) ≡ big_endian 32 u = get_or-map (big_endian 32) ds p [] ∙ ap (big_endian 32) e in
-    rw (some-last d u us, other-number d u (λ q. omega arith), or_false (some (same d) us))
+    rw (some-last d u us, other-number d u (λ q. omega arith), or-false (some (same d) us))
     (ap (λ (l : List ℕ). cond (some (same d) us) 1 0 ∷ l) (found_from (suc (big_endian 32 d)) u us ds p a.1 (omega arith) e))
 
 module _ (list : List ℕ) (count : ℕ) (id : List ℕ) (p : ℕ) (rises : rising (numbers (ids_in count list)) ≡ true) (place : p ≡ below (take 32 id) (ids_in count list))

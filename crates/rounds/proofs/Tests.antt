@@ -20,6 +20,7 @@ all_bytes (b ∷ l) h = (ltb-true b 256 (and_left (ltb b 256) (every (λ c. ltb 
 
 every_mem : {X : Type 0} (p : X → Bool) (l : List X) {x : X} → every p l ≡ true → Memᴰ x l → p x ≡ true
 unfolding every
+every_mem p [] h m = elim m [ ]
 every_mem p (y ∷ l) h (Memᴰ.head e) = rw e (and_left (p y) (every p l) h)
 every_mem p (y ∷ l) h (Memᴰ.tail m) = every_mem p l (and_right (p y) (every p l) h) m
 

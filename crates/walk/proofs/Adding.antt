@@ -1,7 +1,7 @@
 -- What the ranges of a reply add to the needed list.
 use Prim.Native.Nat.{ℕ, suc, ◌+◌, ◌-◌, ◌*◌, ◌≤◌, ◌<◌}
 use mathlib.Core.Path.{◌≡◌, refl, sym, ap, ◌∙◌}
-use mathlib.Core.Bool.{Bool, true, false, not, ◌&&◌, ◌||◌, and_false}
+use mathlib.Core.Bool.{Bool, true, false, not, ◌&&◌, ◌||◌, and-false}
 use mathlib.Core.List.{List, [], ◌∷◌, ◌++◌, foldr, flatten}
 use native.Mathlib.Omega.{arith}
 use lib.ListN.{length, take, drop, length-append, length-drop}
@@ -48,7 +48,7 @@ some-keep d q (e ∷ l) =
     by_test (same d e)
     (λ s. by_test (q e)
     (λ k. let h : q d ≡ true = ap q (same_true d e s) ∙ k in rw (k, s, h) refl)
-    (λ k. let h : q d ≡ false = ap q (same_true d e s) ∙ k in rw (k, s) (some-keep d q l ∙ rw h (and_false (some (same d) l)))))
+    (λ k. let h : q d ≡ false = ap q (same_true d e s) ∙ k in rw (k, s) (some-keep d q l ∙ rw h (and-false (some (same d) l)))))
     (λ s. by_test (q e) (λ k. rw (k, s) (some-keep d q l)) (λ k. rw (k, s) (some-keep d q l)))
 
 -- ---- one range

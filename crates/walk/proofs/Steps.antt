@@ -1,8 +1,10 @@
 -- One range more with its own items, and the walk before the first range.
 use Prim.Native.Nat.{ℕ, ◌≤◌, ◌<◌}
 use mathlib.Core.Path.{◌≡◌, refl, sym, ap, ◌∙◌}
+use mathlib.Core.Bool.{Bool, false}
 use mathlib.Core.List.{List, [], ◌∷◌}
 use native.Mathlib.Omega.{arith}
+use lib.Dec.{ltb}
 use lib.ListN.{length}
 use borrow.Author.Tests.{le-ltb}
 use Rattle.message.specs.Reader.{read}
@@ -66,7 +68,7 @@ module _ (T : Table) (m : List ℕ) (w : Walk) (ok : Passed T) (bytes : Bytes m)
         upper = next.upper;
         from = walking.place;
         to = place;
-        own_val = within_is T ok x y ∙ rw (walking.place, place) refl;
+        own = within_is T ok x y ∙ rw (walking.place, place) refl;
         span = (rw (walking.place, place) rise, fits, lawful_form r.range.bound r.range.prefix next.lawful.1 next.placed.0.0);
         payload = inside-by r.range.payload r.next.at (length m) next.placed.1 next.placed.2;
         next = record { reads = next.reads; place = place ∙ ap (λ (b : B.Bound). place_of b (items T)) (sym next.upper) };
@@ -88,10 +90,14 @@ unfolding starts
 lo_starts = refl
 
 -- no item lies below it
+none_kept : (p : Item → Bool) → ((i : Item) → p i ≡ false) → (is : List Item) → 0 ≡ length (keep p is)
+unfolding keep
+none_kept p h [] = refl
+none_kept p h (i ∷ is) = rw (h i) (none_kept p h is)
+
 none_before : (is : List Item) → 0 ≡ place_of start is
-unfolding place_of keep
-none_before [] = refl
-none_before (i ∷ is) = rw (key-start, le-ltb (key_of i) 0 (omega arith)) (rw key-start at (none_before is))
+unfolding place_of
+none_before is = none_kept (λ (i : Item). ltb (key_of i) (B.key start)) (λ i. rw key-start (le-ltb (key_of i) 0 (omega arith))) is
 
 pub walk_starts : (T : Table) (m : List ℕ) (rs : List Range) → Bytes m → read_message m ≡ read rs [] → Walking T m starts × (ranges_at m starts.cursor ≡ rs)
 walk_starts T m rs by e =

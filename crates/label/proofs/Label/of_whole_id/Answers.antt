@@ -6,11 +6,9 @@ use Rattle.label.proofs.Sums.{label_path}
 use Rattle.label.proofs.Words.{id_is}
 use Rattle.label.proofs.Label.of_whole_id.Goals as goal
 
-word_fits : (c : goal.After-words_at_start) (k : ℕ) → Fits w64 (get_or c.words-at-start.result k 0)
-word_fits c k = search rules
-
 pub returns : goal.returns
 unfolding label_in label_of total
 returns c =
-    let fits = word_fits c in
+    let word_fits : (k : ℕ) → Fits w64 (get_or c.words_at_start.result k 0) = λ k. search rules in
+    let fits = word_fits in
     label_path (id_is _ _ _ _ _ (fits 0).fits (fits 1).fits (fits 2).fits (fits 3).fits c.words_at_start.ensures) refl

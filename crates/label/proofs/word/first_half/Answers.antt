@@ -5,5 +5,5 @@ use Rattle.label.proofs.word.first_half.Goals as goal
 
 pub returns : goal.returns
 returns c =
-    let whole : length c.args.t1 ≡ 32 = search rules in
-    firsts_take 16 0 c.args.t1 (omega arith)
+    let whole : length c.args.d ≡ 32 = search rules in
+    firsts_take 16 0 c.args.d (omega arith)

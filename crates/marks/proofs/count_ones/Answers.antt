@@ -1,0 +1,24 @@
+-- `marks::count_ones` meets its contract. The invariant: the count and the ones that are left make the whole.
+use Prim.Native.Nat.{◌-◌}
+use mathlib.Core.Logic.{⊎_elim}
+use native.Mathlib.Omega.{arith}
+use Rattle.marks.proofs.Marking.{ones-one, ones-other, ones_none}
+use Rattle.marks.proofs.count_ones.Goals as goal
+
+pub loop-i-init : goal.loop-i-init
+loop-i-init c = (omega arith, omega arith, omega arith)
+
+pub loop-i-preserved : goal.loop-i-preserved
+loop-i-preserved c =
+    let l = c.loop-i in
+    let m = c.args.marks.now in
+    ⊎_elim
+    (λ w. let e = ones-one m l.i (omega arith) w.0.taken in (omega arith, omega arith, omega arith))
+    (λ w. let e = ones-other m l.i (omega arith) w.0.left in (omega arith, omega arith, omega arith))
+    c.if-marks-i-eq1.branch
+
+pub returns : goal.returns
+returns c =
+    let l = c.loop-i in
+    let e = ones_none c.args.marks.now l.i (omega arith) in
+    omega arith

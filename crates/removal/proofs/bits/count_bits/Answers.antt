@@ -1,0 +1,40 @@
+-- `removal::bits::count_bits` meets its contract. The invariant: the sum and the ones that are left make the whole.
+use Prim.Native.Nat.{◌-◌}
+use mathlib.Core.Path.{◌≡◌, sym, ◌∙◌}
+use mathlib.Core.Logic.{⊎_elim}
+use native.Mathlib.Omega.{arith}
+use lib.ListN.{length, get_or}
+use lib.Seq.{length-take-le, get_or-take}
+use Rattle.marks.proofs.Marking.{ones-one, ones-other, ones_none}
+use Rattle.removal.specs.Removing.{bits_in}
+use Rattle.removal.proofs.Bitwise.{bits_in_length}
+use Rattle.removal.proofs.bits.count_bits.Invariants.{counted}
+use Rattle.removal.proofs.bits.count_bits.Goals as goal
+
+pub loop-k-init : goal.loop-k-init
+loop-k-init c = (omega arith, omega arith, omega arith)
+
+pub loop-k-preserved : goal.loop-k-preserved
+loop-k-preserved c =
+    let long : length (counted c.args.count c.args.marks.now) ≡ c.args.count = length-take-le c.args.count (bits_in c.args.marks.now) (omega (arith, c.requires, bits_in_length c.args.marks.now)) in
+    let l = c.loop-k in
+    let a = c.args in
+    let m = counted a.count a.marks.now in
+    let n = long in
+    let read : c.bit.result ≡ get_or m l.k 0 = c.bit.ensures ∙ sym (get_or-take a.count (bits_in a.marks.now) l.k 0 (omega arith)) in
+    ⊎_elim
+    (λ w. let e = ones-one m l.k (omega arith) (sym read ∙ w.0.taken) in (omega arith, omega arith, omega arith))
+    (λ w. let e = ones-other m l.k (omega arith) (λ z. w.0.left (read ∙ z)) in (omega arith, omega arith, omega arith))
+    c.if-bit-eq1.branch
+
+pub returns : goal.returns
+returns c =
+    let long : length (counted c.args.count c.args.marks.now) ≡ c.args.count = length-take-le c.args.count (bits_in c.args.marks.now) (omega (arith, c.requires, bits_in_length c.args.marks.now)) in
+    let l = c.loop-k in
+    let a = c.args in
+    let n = long in
+    let e = ones_none (counted a.count a.marks.now) l.k (omega arith) in
+    omega arith
+
+pub bit-requires : goal.bit-requires
+bit-requires c = omega (arith, c.requires)

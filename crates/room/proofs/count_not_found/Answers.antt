@@ -1,0 +1,24 @@
+-- `room::count_not_found` meets its contract. The invariant: `Counting`.
+use Prim.Native.Nat.{◌-◌}
+use mathlib.Core.Logic.{⊎_elim}
+use native.Mathlib.Omega.{arith}
+use Rattle.room.proofs.Unowned.{counting_starts, counting_one, counting_none, counting_ends}
+use Rattle.room.proofs.count_not_found.Goals as goal
+
+pub loop-i-init : goal.loop-i-init
+loop-i-init c = (omega arith, omega arith, counting_starts c.args.found.now c.args.n)
+
+pub loop-i-preserved : goal.loop-i-preserved
+loop-i-preserved c =
+    let a = c.args in
+    let l = c.loop-i in
+    ⊎_elim
+    (λ w. (omega arith, omega arith, rw w.1 (counting_one a.found.now a.n l.count l.i (omega arith) w.0.taken l.invariant.2)))
+    (λ w. (omega arith, omega arith, rw w.1 (counting_none a.found.now a.n l.count l.i (omega arith) w.0.left l.invariant.2)))
+    c.if-found-i-eq0.branch
+
+pub returns : goal.returns
+returns c =
+    let a = c.args in
+    let l = c.loop-i in
+    (omega arith, counting_ends a.found.now a.n l.count l.i (omega arith) l.invariant.2)

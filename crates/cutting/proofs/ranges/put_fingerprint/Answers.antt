@@ -43,4 +43,4 @@ returns c =
     let put = c.put in
     hands-print (writes a.pass) a.upper.bound a.upper.prefix made.result (fingerprint_of own) whole (print-length own)
     (λ e. made.ensures e ∙ run-print (table) c.requires.0 a.at a.end c.requires.1 c.requires.2 _ refl)
-    a.writer (buffer_of a.pass a.out.now) (buffer_of a.pass put.last.1.0) put.result c.requires.3 put.ensures.written_value put.ensures.next_value put.ensures.out_after
+    a.writer (buffer_of a.pass a.out.now) (buffer_of a.pass put.new.out) put.result c.requires.3 put.ensures.written_value put.ensures.next_value put.ensures.out_after

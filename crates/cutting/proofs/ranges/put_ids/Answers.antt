@@ -21,4 +21,4 @@ returns c =
     let i = c.requires.1 in
     let put = c.put.ensures in
     rw (ids-run (lent a.times.now a.own.now) a.span.lo a.span.hi i.1)
-    (hands-put (writes a.pass) (listing a.span a.own.now) a.writer (buffer_of a.pass a.out.now) (buffer_of a.pass c.put.last.1.0) c.put.result (i.2, listing-inside (lent a.times.now a.own.now) c.requires.0 a.span i.0 i.1) put.written_value put.next_value put.out_after)
+    (hands-put (writes a.pass) (listing a.span a.own.now) a.writer (buffer_of a.pass a.out.now) (buffer_of a.pass c.put.new.out) c.put.result (i.2, listing-inside (lent a.times.now a.own.now) c.requires.0 a.span i.0 i.1) put.written_value put.next_value put.out_after)

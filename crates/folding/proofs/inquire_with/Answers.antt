@@ -28,8 +28,7 @@ inquire_checked-requires c =
     let T : Table = lent c.args.times.now c.args.ids.now in
     let B : Table = lent c.args.fresh.now c.args.freshids.now in
     let L : ℕ → Label → Lent = λ marked label. lent_to c.args.times.now c.args.ids.now c.args.needed.now marked label c.args.size c.args.done in
-    let s : tie.Start = c in
-    let tables : (sizes s.args.count (L s 0 empty) (B s) ≡ false) × (orders s.args.count (L s 0 empty) (B s) ≡ false) = both-passed 1 2 _ _ (rw c.in-Passed.is at c.check_tables.ensures) in
+    let tables : (sizes c.args.count (L 0 empty) (B) ≡ false) × (orders c.args.count (L 0 empty) (B) ≡ false) = both-passed 1 2 _ _ (rw c.in-Passed.is at c.check_tables.ensures) in
     let list : (marked : ℕ) (label : Label) → (wrong_needed (L marked label) ≡ false) × (not c.args.done ≡ false) = λ marked label. let a = c.args in
     both-passed 4 15 _ _ (rw c.in-Passed-check_list.is at (c.check_list.ensures a.times.now a.ids.now marked label)) in
     let z = or_false (cannot_hold c.args.count (T)) (wrong_size (B)) (tables).0 in
@@ -51,8 +50,7 @@ pub returns-in-Refused-check_list : goal.returns-in-Refused-check_list
 returns-in-Refused-check_list c =
     let B : Table = lent c.args.fresh.now c.args.freshids.now in
     let L : ℕ → Label → Lent = λ marked label. lent_to c.args.times.now c.args.ids.now c.args.needed.now marked label c.args.size c.args.done in
-    let s : tie.Start = c in
-    let tables : (sizes s.args.count (L s 0 empty) (B s) ≡ false) × (orders s.args.count (L s 0 empty) (B s) ≡ false) = both-passed 1 2 _ _ (rw c.in-Passed.is at c.check_tables.ensures) in
+    let tables : (sizes c.args.count (L 0 empty) (B) ≡ false) × (orders c.args.count (L 0 empty) (B) ≡ false) = both-passed 1 2 _ _ (rw c.in-Passed.is at c.check_tables.ensures) in
     let t = tables in
     let both = (
       λ marked label. rw c.refuse-in-Refused-check_list.ensures
@@ -65,8 +63,7 @@ pub returns-in-Passed-check_list : goal.returns-in-Passed-check_list
 returns-in-Passed-check_list c =
     let B : Table = lent c.args.fresh.now c.args.freshids.now in
     let L : ℕ → Label → Lent = λ marked label. lent_to c.args.times.now c.args.ids.now c.args.needed.now marked label c.args.size c.args.done in
-    let s : tie.Start = c in
-    let tables : (sizes s.args.count (L s 0 empty) (B s) ≡ false) × (orders s.args.count (L s 0 empty) (B s) ≡ false) = both-passed 1 2 _ _ (rw c.in-Passed.is at c.check_tables.ensures) in
+    let tables : (sizes c.args.count (L 0 empty) (B) ≡ false) × (orders c.args.count (L 0 empty) (B) ≡ false) = both-passed 1 2 _ _ (rw c.in-Passed.is at c.check_tables.ensures) in
     let list : (marked : ℕ) (label : Label) → (wrong_needed (L marked label) ≡ false) × (not c.args.done ≡ false) = λ marked label. let a = c.args in
     both-passed 4 15 _ _ (rw c.in-Passed-check_list.is at (c.check_list.ensures a.times.now a.ids.now marked label)) in
     let t = tables in

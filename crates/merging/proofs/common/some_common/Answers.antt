@@ -58,7 +58,7 @@ returns-then-not-item_below c =
     let batch-bytes : Bytes (batch).ids = small_bytes (batch).ids (λ m. omega (arith, c.type_inv.freshids m)) in
     sym (l.invariant.2
     ∙ both-here (ours) (batch) c.requires.0 c.requires.1 l.i l.j (omega arith) (omega arith)
-    _ _ c.item_below.ensures c.if-item_below.false c.item_below-else-item_below.ensures c.if-not-item_below.true own-bytes batch-bytes)
+    _ _ c.item_below.ensures c.if-item_below.false c.item_below-else-item_below.ensures (ap not c.if-not-item_below.true) own-bytes batch-bytes)
 
 pub loop-i-preserved : goal.loop-i-preserved
 loop-i-preserved c =
@@ -69,7 +69,7 @@ loop-i-preserved c =
       omega arith,
       omega arith,
       l.invariant.2 ∙ batch-lower (ours) (batch) c.requires.0 c.requires.1 l.i l.j (omega arith) (omega arith)
-          _ c.item_below-else-item_below.ensures c.if-not-item_below.false,
+          _ c.item_below-else-item_below.ensures (ap not c.if-not-item_below.false),
     )
 
 -- the table is at its end

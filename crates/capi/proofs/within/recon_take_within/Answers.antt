@@ -1,0 +1,8 @@
+-- `capi::within::recon_take_within` meets its contract.
+use mathlib.Core.Path.{refl}
+use Rattle.capi.proofs.within.recon_take_within.Goals as goal
+
+pub returns : goal.returns
+returns c =
+    let e = rw c.handed-before.ensures at c.take_reply.ensures in
+    record { result_value = rw e c.tell_session.ensures; marks_after = rw e refl; needed_after = rw e refl; out_after = rw e refl }

@@ -3,26 +3,31 @@ use Prim.Native.Nat.{ℕ, ◌+◌, ◌<◌, ◌≤◌}
 use mathlib.Core.Path.{◌≡◌, refl, sym, ap, ◌∙◌}
 use mathlib.Core.List.{List, [], ◌++◌, append-nil, append_assoc, flatten}
 use native.Mathlib.Omega.{arith}
-use lib.ListN.{length, length-append}
+use Rattle.std.proofs.Common.{Fits, w8}
+use lib.ListN.{length, get_or, length-append}
 use lib.Dec.{ltb}
 use lib.Seq.{length-take-le}
 use borrow.Author.Tests.{ltb-false, lt-ltb, le-ltb}
-use Rattle.io.specs.Counts.{IsPrefixLen}
 use Rattle.message.specs.Reader.{Outcome, read, refused}
 use Rattle.message.specs.Message.{Range, read_message}
 use Rattle.message.specs.WellFormed.{Bytes}
 use Rattle.message.specs.Code.{range_of}
 use Rattle.message.proofs.Exact.{differ, by_test}
+use Rattle.message.proofs.Order.{small_bytes}
 use Rattle.reader.specs.Answers.{counted}
 use Rattle.reader.specs.Private.{reading_at, ranges_of, ranges_at}
 use Rattle.reader.specs.Stepping.{starts}
 use Rattle.reader.specs.declared.range.RangeCursor.{RangeCursor}
 use Rattle.reader.specs.declared.range.RangeRead.{RangeRead}
 use Rattle.reader.proofs.Stepping.{Next, reading-starts}
-use Rattle.text.specs.Text.{too_long, line, refusal_line, lines, printed, shown, room, shown_in, put}
+use Rattle.text.specs.Text.{too_long, line, refusal_line, lines, printed, shown, room, shown_in, put, IsPrefixLen}
 use Rattle.text.specs.Private.{Readable}
 use Rattle.text.proofs.Putting.{rest, joined, length-put, put-behind}
 use Rattle.text.proofs.Fitting.{printed_short, shown-fits}
+
+-- what a slice of bytes holds
+pub bytes_of : (m : List ℕ) → ((k : ℕ) → Fits w8 (get_or m k 0)) → Bytes m
+bytes_of m h = small_bytes m (λ k. omega (arith, h k))
 
 -- n bytes are written, and the cursor stands at c
 pub record Shows (m out₀ out : List ℕ) (c : RangeCursor) (n : ℕ) : Type 0 where

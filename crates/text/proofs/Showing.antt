@@ -1,7 +1,7 @@
 -- The loop over the ranges of a message: the text so far and the lines of the ranges that are left are the whole text.
 use Prim.Native.Nat.{ℕ, ◌+◌, ◌<◌, ◌≤◌}
 use mathlib.Core.Path.{◌≡◌, refl, sym, ap, ◌∙◌}
-use mathlib.Core.List.{List, [], ◌++◌, append-nil, append_assoc, flatten}
+use mathlib.Core.List.{List, [], ◌∷◌, ◌++◌, append-nil, append_assoc, flatten}
 use native.Mathlib.Omega.{arith}
 use Rattle.std.proofs.Common.{Fits, w8}
 use lib.ListN.{length, get_or, length-append}
@@ -20,7 +20,7 @@ use Rattle.reader.specs.Stepping.{starts}
 use Rattle.reader.specs.declared.range.RangeCursor.{RangeCursor}
 use Rattle.reader.specs.declared.range.RangeRead.{RangeRead}
 use Rattle.reader.proofs.Stepping.{Next, reading-starts}
-use Rattle.text.specs.Text.{too_long, line, refusal_line, lines, printed, shown, room, shown_in, put, IsPrefixLen}
+use Rattle.text.specs.Text.{space, newline, too_long, line, refusal_line, lines, printed, shown, room, shown_in, put, IsPrefixLen}
 use Rattle.text.specs.Private.{Readable}
 use Rattle.text.proofs.Putting.{rest, joined, length-put, put-behind}
 use Rattle.text.proofs.Fitting.{printed_short, shown-fits}
@@ -100,8 +100,8 @@ unfolding shown_in
 no_room out m h = rw (lt-ltb (length out) room h) refl
 
 module _ (out m : List ℕ) (wide : room ≤ length out) where
-  pub too_long_lem : 65536 < length m → shown_in out m ≡ too_long
-  unfolding shown_in shown
+  pub too_long_lem : 65536 < length m → shown_in out m ≡ 0x74 ∷ 0x6F ∷ 0x6F ∷ space ∷ 0x6C ∷ 0x6F ∷ 0x6E ∷ 0x67 ∷ newline ∷ []
+  unfolding shown_in shown too_long
   too_long_lem h = rw (le-ltb (length out) room wide, lt-ltb 65536 (length m) h) refl
 
   pub not-long : length m ≤ 65536 → shown_in out m ≡ printed (read_message m)

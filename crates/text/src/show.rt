@@ -46,6 +46,7 @@ fn put_ranges(out: &mut [u8], m: &[u8]) -> usize
 
 // Writes the text at the start of `out` and answers how many bytes it takes. Where `out` has less than `ROOM` bytes the answer is 0 and nothing
 // is written.
+#[tactic(auto, using(crate::proofs::Showing::too_long_lem))]
 pub fn show(m: &[u8], out: &mut [u8]) -> usize
     ensures value { result ≡ length (spec.shown_in out.old m.now) }
     ensures out_after { out.new ≡ put (spec.shown_in out.old m.now) out.old }

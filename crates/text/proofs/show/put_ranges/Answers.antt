@@ -25,19 +25,19 @@ loop-cursor-init c = shows_start c.args.m.now c.args.out.now (bytes_of c.args.m.
 pub slice_bounds-put_range-count : goal.slice_bounds-put_range-count
 slice_bounds-put_range-count c =
     let l = c.loop-cursor in
-    omega (arith, fits c.args.m.now c.args.out.now l.out l.cursor l.n c.range-read.result (bytes_of c.args.m.now c.type_inv.m) l.invariant c.loop-cursor-test.true c.range-read.ensures c.requires.0 c.requires.1)
+    omega (arith, fits c.args.m.now c.args.out.now l.out l.cursor l.n c.range-read.result (bytes_of c.args.m.now c.type_inv.m) l.invariant (omega arith) c.range-read.ensures c.requires.0 c.requires.1)
 
 pub slice_bounds-put_range-start : goal.slice_bounds-put_range-start
 slice_bounds-put_range-start c =
     let l = c.loop-cursor in
-    omega (arith, fits c.args.m.now c.args.out.now l.out l.cursor l.n c.range-read.result (bytes_of c.args.m.now c.type_inv.m) l.invariant c.loop-cursor-test.true c.range-read.ensures c.requires.0 c.requires.1)
+    omega (arith, fits c.args.m.now c.args.out.now l.out l.cursor l.n c.range-read.result (bytes_of c.args.m.now c.type_inv.m) l.invariant (omega arith) c.range-read.ensures c.requires.0 c.requires.1)
 
 pub put_range-n-requires : goal.put_range-n-requires
 put_range-n-requires c =
     let l = c.loop-cursor in
     omega (
       arith,
-      fits c.args.m.now c.args.out.now l.out l.cursor l.n c.range-read.result (bytes_of c.args.m.now c.type_inv.m) l.invariant c.loop-cursor-test.true c.range-read.ensures c.requires.0 c.requires.1,
+      fits c.args.m.now c.args.out.now l.out l.cursor l.n c.range-read.result (bytes_of c.args.m.now c.type_inv.m) l.invariant (omega arith) c.range-read.ensures c.requires.0 c.requires.1,
       length_part l.out l.n,
     )
 
@@ -46,25 +46,25 @@ overflow_add-n c =
     let l = c.loop-cursor in
     omega (
       arith,
-      fits c.args.m.now c.args.out.now l.out l.cursor l.n c.range-read.result (bytes_of c.args.m.now c.type_inv.m) l.invariant c.loop-cursor-test.true c.range-read.ensures c.requires.0 c.requires.1,
+      fits c.args.m.now c.args.out.now l.out l.cursor l.n c.range-read.result (bytes_of c.args.m.now c.type_inv.m) l.invariant (omega arith) c.range-read.ensures c.requires.0 c.requires.1,
       c.put_range-n.ensures.value,
     )
 
 pub loop-cursor-smaller : goal.loop-cursor-smaller
 loop-cursor-smaller c =
     let l = c.loop-cursor in
-    omega (arith, (next c.args.m.now c.args.out.now l.out l.cursor l.n c.range-read.result (bytes_of c.args.m.now c.type_inv.m) l.invariant c.loop-cursor-test.true c.range-read.ensures).moved)
+    omega (arith, (next c.args.m.now c.args.out.now l.out l.cursor l.n c.range-read.result (bytes_of c.args.m.now c.type_inv.m) l.invariant (omega arith) c.range-read.ensures).moved)
 
 pub loop-cursor-preserved : goal.loop-cursor-preserved
 loop-cursor-preserved c =
     let l = c.loop-cursor in
     let p = c.put_range-n in
     shows_step c.args.m.now c.args.out.now l.out l.cursor l.n (bytes_of c.args.m.now c.type_inv.m) c.requires.0 c.requires.1 l.invariant c.range-read.result
-    (next c.args.m.now c.args.out.now l.out l.cursor l.n c.range-read.result (bytes_of c.args.m.now c.type_inv.m) l.invariant c.loop-cursor-test.true c.range-read.ensures)
+    (next c.args.m.now c.args.out.now l.out l.cursor l.n c.range-read.result (bytes_of c.args.m.now c.type_inv.m) l.invariant (omega arith) c.range-read.ensures)
     p.new.out p.result p.ensures.value p.ensures.out_after
 
 pub returns : goal.returns
 returns c =
     let l = c.loop-cursor in
-    let z = shows_end c.args.m.now c.args.out.now l.out l.cursor l.n l.invariant (reading-ends c.args.m.now l.cursor c.loop-cursor-test.false) in
+    let z = shows_end c.args.m.now c.args.out.now l.out l.cursor l.n l.invariant (reading-ends c.args.m.now l.cursor (omega arith)) in
     record { value = z.0; out_after = z.1 }

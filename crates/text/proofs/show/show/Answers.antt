@@ -1,9 +1,9 @@
-use Rattle.std.proofs.Common.{[], ap, ◌∙◌, sym, refl}
+use Rattle.std.proofs.Common.{[], ap, ◌∙◌, sym, refl, arith}
 use Rattle.message.specs.Message.{read_message}
 use Rattle.message.specs.Code.{number_of}
 use Rattle.reader.proofs.Stepping.{message-read}
-use Rattle.text.specs.Text.{too_long, refusal_line, put}
-use Rattle.text.proofs.Showing.{bytes_of, no_room, too_long_lem, not-long, printed-refused, shows_all}
+use Rattle.text.specs.Text.{refusal_line, put}
+use Rattle.text.proofs.Showing.{bytes_of, no_room, not-long, printed-refused, shows_all}
 use Rattle.text.proofs.show.show.Goals as goal
 
 pub returns-then-out-lt-ROOM : goal.returns-then-out-lt-ROOM
@@ -14,19 +14,9 @@ returns-then-out-lt-ROOM c =
     let z = shows_all out m out [] 0 (bytes_of m c.type_inv.m) (no_room out m c.if-out-lt-ROOM.true) refl refl in
     record { value = z.0; out_after = z.1.0; prefix_len = z.1.1 }
 
-pub returns-then-m-gt65536 : goal.returns-then-m-gt65536
-unfolding too_long
-returns-then-m-gt65536 c =
-    let out = c.args.out.now in
-    let m = c.args.m.now in
-    let w = c.copy in
-    let text = too_long_lem out m c.if-out-lt-ROOM.false c.if-m-gt65536.true in
-    let z = shows_all out m w.new.out too_long w.result (bytes_of m c.type_inv.m) text w.ensures.value w.ensures.out_after in
-    record { value = z.0; out_after = z.1.0; prefix_len = z.1.1 }
-
 pub put_ranges-requires : goal.put_ranges-requires
 put_ranges-requires c =
-    (c.if-m-gt65536.false, c.if-out-lt-ROOM.false, message-read c.args.m.now _ c.in-Ranges.ensures)
+    (omega arith, c.if-out-lt-ROOM.false, message-read c.args.m.now _ c.in-Ranges.ensures)
 
 pub returns-in-Refused : goal.returns-in-Refused
 returns-in-Refused c =
@@ -34,7 +24,7 @@ returns-in-Refused c =
     let m = c.args.m.now in
     let p = c.put_refusal in
     let text =
-    not-long out m c.if-out-lt-ROOM.false c.if-m-gt65536.false
+    not-long out m c.if-out-lt-ROOM.false (omega arith)
     ∙ printed-refused (read_message m) (number_of c.in-Refused.refusal) c.in-Refused.ensures
     ∙ ap refusal_line (sym c.number.ensures) in
     let z = shows_all out m p.new.out _ p.result (bytes_of m c.type_inv.m) text p.ensures.value.0 p.ensures.out_after in
@@ -45,6 +35,6 @@ returns-in-Ranges c =
     let out = c.args.out.now in
     let m = c.args.m.now in
     let p = c.put_ranges in
-    let text = not-long out m c.if-out-lt-ROOM.false c.if-m-gt65536.false in
+    let text = not-long out m c.if-out-lt-ROOM.false (omega arith) in
     let z = shows_all out m p.new.out _ p.result (bytes_of m c.type_inv.m) text p.ensures.value p.ensures.out_after in
     record { value = z.0; out_after = z.1.0; prefix_len = z.1.1 }

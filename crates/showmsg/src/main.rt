@@ -2,74 +2,73 @@
 // Whoever starts it by hand on a terminal is told so first, on standard error.
 #![tactic(auto)]
 
-use libc::{STDERR_FILENO, STDIN_FILENO, STDOUT_FILENO};
+use std::alloc::{AllocError, Global};
+use std::env::FillError;
+use std::io;
+use std::io::{IsTerminal, Read};
+use std::rt::Env;
 use text::show::{ROOM, show};
 
-// One byte more than a message may have here.
-fn input() -> [u8; 65537] {
-    [0; 65537]
+// What standard input has, up to one byte more than a message may have here.
+fn input(rt: &(impl Input + AllocGlobal)) -> io::Result<Vec<u8>> {
+    let mut message = Vec::new(rt.alloc());
+    rt.reader().take(65537).read_to_end(&mut message)?;
+    Ok(message)
 }
 
-fn output() -> [u8; ROOM] {
-    [0; ROOM]
+fn output(alloc: Global) -> Result<Vec<u8>, AllocError> {
+    vec![in alloc; 0; ROOM]
 }
 
-fn show_input() {
-    let mut message = input();
-    let n = io::read_full(STDIN_FILENO, &mut message);
-    let mut shown = output();
-    let k = show(&message[..n], &mut shown);
-    io::write_all(STDOUT_FILENO, &shown[..k]);
+fn show_input(rt: &(impl Input + Print + AllocGlobal)) -> io::Result<()> {
+    let message = input(rt)?;
+    let mut shown = output(rt.alloc())?;
+    let k = show(&message, &mut shown);
+    rt.write_all(&shown[..k])
 }
 
-fn help() {
-    io::write_all(STDOUT_FILENO, b"usage: showmsg < FILE\n\n");
-    io::write_all(
-        STDOUT_FILENO,
+fn help(out: &impl Print) -> io::Result<()> {
+    out.write_all(b"usage: showmsg < FILE\n\n")?;
+    out.write_all(
         b"Reads a message of the Negentropy Protocol V1 (at most 65,536 bytes) from standard input and prints a line for\n",
-    );
-    io::write_all(
-        STDOUT_FILENO,
+    )?;
+    out.write_all(
         b"each of its ranges: the upper bound's time or inf; its prefix or -; skip, fingerprint or ids; then -, the\n",
-    );
-    io::write_all(
-        STDOUT_FILENO,
+    )?;
+    out.write_all(
         b"fingerprint or the number of ids. For other bytes it prints refused and the number of the refusal, or too long.\n\n",
-    );
-    io::write_all(STDOUT_FILENO, b"  -h, --help   print this\n");
-    io::write_all(STDOUT_FILENO, b"  --version    print the version\n");
+    )?;
+    out.write_all(b"  -h, --help   print this\n")?;
+    out.write_all(b"  --version    print the version\n")
 }
 
-// What the argument asks for. A program here has no exit status to set: an argument that it does not know is told on standard error.
-fn answer(argument: &[u8]) {
-    if check::same(argument, b"--help") || check::same(argument, b"-h") {
-        help();
-        return;
+// What the argument asks for. One that the program does not know is told on standard error, and that one may be closed.
+fn answer(out: &impl Print, err: &impl Print, argument: &[u8]) -> io::Result<()> {
+    match argument {
+        b"--help" | b"-h" => help(out),
+        b"--version" => out.write_all(b"showmsg 0.1.0\n"),
+        _ => {
+            let _ = err.write_all(b"showmsg: unknown argument '");
+            let _ = err.write_all(argument);
+            let _ = err.write_all(
+                b"'; it reads the message from standard input, as in showmsg < FILE, and knows --help and --version\n",
+            );
+            Ok(())
+        }
     }
-    if check::same(argument, b"--version") {
-        io::write_all(STDOUT_FILENO, b"showmsg 0.1.0\n");
-        return;
-    }
-    io::write_all(STDERR_FILENO, b"showmsg: unknown argument '");
-    io::write_all(STDERR_FILENO, argument);
-    io::write_all(
-        STDERR_FILENO,
-        b"'; it reads the message from standard input, as in showmsg < FILE, and knows --help and --version\n",
-    );
 }
 
-fn main() {
-    if os::arg_count() > 1 {
-        let mut argument = io::buffer();
-        let n = os::arg(1, &mut argument);
-        answer(&argument[..n]);
-        return;
+fn main(rt: HostRuntime) -> io::Result<()> {
+    let mut argument = [0u8; 4096];
+    match rt.arg(1, &mut argument) {
+        Ok(n) => return answer(&rt.stdout(), &rt.stderr(), &argument[..n]),
+        Err(FillError::TooLong) => return answer(&rt.stdout(), &rt.stderr(), b""),
+        Err(FillError::NotPresent) => {}
     }
-    if libc::isatty(STDIN_FILENO) != 0 {
-        io::write_all(
-            STDERR_FILENO,
+    if rt.stdin().is_terminal() {
+        let _ = rt.stderr().write_all(
             b"showmsg: reads a message (at most 65,536 bytes) from standard input, as in showmsg < FILE\n",
         );
     }
-    show_input();
+    show_input(&rt)
 }

@@ -28,7 +28,7 @@ digits_short (suc f) n =
     (λ e. rw e (omega arith))
     (λ e. rw (e, length-append (decimal_up_to f (n / 10)) (digit (n % 10) ∷ [])) (omega (arith, digits_short f (n / 10))))
 
-decimal_short : (n : ℕ) → length (decimal n) ≤ 20
+pub decimal_short : (n : ℕ) → length (decimal n) ≤ 20
 unfolding decimal
 decimal_short n = digits_short 20 n
 

@@ -5,15 +5,14 @@ use mathlib.Core.List.{List, [], ◌∷◌, ◌++◌, append-nil, append_assoc}
 use native.Mathlib.Omega.{arith}
 use native.Mathlib.Nat.{div-lt_iff_lt-mul, pow-suc}
 use native.Mathlib.Numerals.{add-one}
-use native.Mathlib.Decide.{dec_le}
-use lib.Dec.{lit<}
+use lib.Dec.{ltb, lit<}
 use lib.ListN.{length, take, drop, set, get_or, length-append, length-drop, drop_of_length-le}
-use lib.Seq.{drop-cons, drop-drop, take-suc, set_at, append_snoc, take_all, take-length, take-append_seam, drop-append_seam}
+use lib.Seq.{drop-cons, drop-drop, take-suc, set_at, append_snoc, take_all, take-append_seam, drop-append_seam}
 use borrow.Author.Tests.{lt-ltb, le-ltb}
-use Rattle.io.specs.Digits.{last_digits, IsDigitCount}
 use Rattle.message.specs.Bound.{prefix}
 use Rattle.message.specs.Message.{Payload, range}
 use Rattle.message.specs.Code.{bound_of}
+use Rattle.message.proofs.Exact.{by_test}
 use Rattle.message.specs.declared.Bound as Code
 use Rattle.text.specs.Text.{digit, space, newline, dash, decimal_up_to, decimal, hex, time_field, prefix_field, mode_field, payload_field, line, put}
 use Rattle.text.specs.Private.{spaced, payload_fields}
@@ -31,11 +30,6 @@ pub put-none : (out : List ℕ) → put (hex []) out ≡ out
 unfolding put hex
 put-none out = refl
 
--- all of s, copied
-pub put_copy : (s out : List ℕ) → take (length s) s ++ drop (length s) out ≡ put s out
-unfolding put
-put_copy s out = ap (λ (l : List ℕ). l ++ drop (length s) out) (take-length s)
-
 -- one code more, stored behind t
 pub put_one : (t out o₁ : List ℕ) (n x : ℕ) → n ≡ length t → length t < length out → o₁ ≡ put t out → set o₁ n x ≡ put (t ++ (x ∷ [])) out
 unfolding put
@@ -44,6 +38,11 @@ put_one t out o₁ n x e h p =
     (set_at t (get_or out (length t) 0) (drop (suc (length t)) out) x (length t) refl
     ∙ sym (append_snoc t x (drop (suc (length t)) out))
     ∙ ap (λ (k : ℕ). (t ++ (x ∷ [])) ++ drop k out) (sym (length-append t (x ∷ []) ∙ add-one (length t))))
+
+-- the first code
+pub put-first : (out : List ℕ) (x : ℕ) → 0 < length out → set out 0 x ≡ put (x ∷ []) out
+unfolding put
+put-first out x h = put_one [] out out 0 x refl h refl
 
 -- what `&mut out[n..]` holds
 abbrev pub rest : ℕ → List ℕ → List ℕ
@@ -110,48 +109,27 @@ hex_step s out o₁ i x y h room p l ex ey =
 
 -- ---- decimal
 
-pub fewest_decimal : (k n f : ℕ) → IsDigitCount 10 1 n k → k ≤ f → last_digits 10 k n ≡ decimal_up_to f n
+-- one digit more is not needed
+enough : (f n : ℕ) → n < 10 ^ suc f → decimal_up_to (suc (suc f)) n ≡ decimal_up_to (suc f) n
 unfolding decimal_up_to
-fewest_decimal zero n f h l = absurd (omega arith)
-fewest_decimal (suc k) n zero h l = absurd (omega arith)
-fewest_decimal (suc zero) n (suc f) h l =
-    let small : n < 10 = h.1 in
-    let same : n % 10 ≡ n = omega arith in
-    rw (same, lt-ltb n 10 small) refl
-fewest_decimal (suc (suc k)) n (suc f) h l =
-    let less : suc (suc k) - 1 ≡ suc k = omega arith in
-    let top : 10 * 10 ^ k ≤ n = omega (arith, rw (less, pow-suc) at (h.2 (omega arith))) in
-    let some : 1 ≤ 10 ^ k = pow_some k in
-    let below : n / 10 < 10 ^ suc k = (div-lt_iff_lt-mul {k = 10} {x = n} {y = 10 ^ suc k} (lit< tt)).1 (rw pow-suc at h.1) in
-    rw (le-ltb n 10 (omega arith))
-    (ap (λ (t : List ℕ). t ++ (digit (n % 10) ∷ []))
-    (fewest_decimal (suc k) (n / 10) f (omega arith, below, λ j. let e : suc k - 1 ≡ k = omega arith in rw e (le_tenth k n top)) (omega arith)))
-  where
-    pow_some : (k : ℕ) → 1 ≤ 10 ^ k
-    pow_some zero = omega arith
-    pow_some (suc k) = rw pow-suc (omega (arith, pow_some k))
+enough zero n h = let small : n < 10 = omega arith in rw (lt-ltb n 10 small) refl
+enough (suc f) n h =
+    by_test (ltb n 10)
+    (λ e. rw e refl)
+    (λ e.
+    let below : n / 10 < 10 ^ suc f = (div-lt_iff_lt-mul {k = 10} {x = n} {y = 10 ^ suc f} (lit< tt)).1 (rw pow-suc at h) in
+    rw e (ap (λ (t : List ℕ). t ++ (digit (n % 10) ∷ [])) (enough f (n / 10) below)))
 
-    le_tenth : (k n : ℕ) → 10 * 10 ^ k ≤ n → 10 ^ k ≤ n / 10
-    le_tenth k n h = omega arith
+pub decimal-small : (n : ℕ) → n < 10 → decimal n ≡ digit n ∷ []
+unfolding decimal decimal_up_to
+decimal-small n h = rw (lt-ltb n 10 h) refl
 
-power_20 : (q : ℕ) → 20 ≤ q → 10 ^ 20 ≤ 10 ^ q
-power_20 zero h = absurd (omega arith)
-power_20 (suc q) h =
-    elim (dec_le 20 q) [
-      | yes l ↦ let e : 10 ^ suc q ≡ 10 ^ q * 10 = pow-suc 10 q in omega (arith, power_20 q l)
-      | no l ↦ let e : suc q ≡ 20 = omega arith in rw e (omega arith)
-    ]
-
-pub fewest_20 : (n r : ℕ) → IsDigitCount 10 1 n r → n < 2 ^ 64 → r ≤ 20
-fewest_20 n r h l = elim (dec_le r 20) [ yes e ↦ e | no e ↦ absurd (omega (arith, h.2 (omega arith), power_20 (r - 1) (omega arith))) ]
-
--- what `io::decimal` and `bytes::copy` do together
-pub decimal-put : (n r : ℕ) (d out last : List ℕ) → IsDigitCount 10 1 n r → r ≤ 20 → r ≡ length (take r d) → take r d ≡ last_digits 10 r n
-    → last ≡ take (length (take r d)) (take r d) ++ drop (length (take r d)) out → ((r ≡ length (decimal n)) × (r ≤ 20)) × (last ≡ put (decimal n) out)
-unfolding decimal
-decimal-put n r d out last h l e p q =
-    let text : take r d ≡ decimal_up_to 20 n = p ∙ fewest_decimal r n 20 h l in
-    ((e ∙ ap length text, l), q ∙ put_copy (take r d) out ∙ ap (λ (t : List ℕ). put t out) text)
+-- the last digit, and those before it
+pub decimal-more : (n : ℕ) → 10 ≤ n → n < 2 ^ 64 → decimal n ≡ decimal (n / 10) ++ (digit (n % 10) ∷ [])
+unfolding decimal decimal_up_to
+decimal-more n h few =
+    let below : n / 10 < 10 ^ 19 = omega arith in
+    rw (le-ltb n 10 h) (ap (λ (t : List ℕ). t ++ (digit (n % 10) ∷ [])) (sym (enough 18 (n / 10) below)))
 
 -- ---- fields
 
@@ -159,10 +137,10 @@ decimal-put n r d out last h l e p q =
 pub put-end : (t out o₁ : List ℕ) (k x : ℕ) → k ≡ length t → length t < length out → o₁ ≡ put t out → (k + 1 ≡ length (t ++ (x ∷ []))) × (set o₁ k x ≡ put (t ++ (x ∷ [])) out)
 put-end t out o₁ k x e h p = (sym (length-append t (x ∷ []) ∙ ap (λ (n : ℕ). n + 1) (sym e)), put_one t out o₁ k x e h p)
 
--- a word, copied, and a text put behind it
-pub word_put : (w t out o₁ last : List ℕ) (r : ℕ) → length w ≤ length out → o₁ ≡ take (length w) w ++ drop (length w) out → r ≡ length t
+-- a word, and a text put behind it
+pub word_put : (w t out o₁ last : List ℕ) (r : ℕ) → length w ≤ length out → o₁ ≡ put w out → r ≡ length t
     → last ≡ put t (rest (length w) o₁) → (length w + r ≡ length (w ++ t)) × (joined (length w) o₁ last ≡ put (w ++ t) out)
-word_put w t out o₁ last r h p e q = (ap (λ (k : ℕ). length w + k) e ∙ sym (length-append w t), put-behind w t out o₁ last (length w) refl h (p ∙ put_copy w out) q)
+word_put w t out o₁ last r h p e q = (ap (λ (k : ℕ). length w + k) e ∙ sym (length-append w t), put-behind w t out o₁ last (length w) refl h p q)
 
 -- `fingerprint`, `ids` and `refused`, each with a space
 abbrev pub fingerprint_word : List ℕ

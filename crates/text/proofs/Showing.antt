@@ -1,28 +1,33 @@
 -- The loop over the ranges of a message: the text so far and the lines of the ranges that are left are the whole text.
 use Prim.Native.Nat.{ℕ, ◌+◌, ◌<◌, ◌≤◌}
 use mathlib.Core.Path.{◌≡◌, refl, sym, ap, ◌∙◌}
-use mathlib.Core.List.{List, [], ◌++◌, append-nil, append_assoc, flatten}
+use mathlib.Core.List.{List, [], ◌∷◌, ◌++◌, append-nil, append_assoc, flatten}
 use native.Mathlib.Omega.{arith}
-use lib.ListN.{length, length-append}
+use Rattle.std.proofs.Common.{Fits, w8}
+use lib.ListN.{length, get_or, length-append}
 use lib.Dec.{ltb}
 use lib.Seq.{length-take-le}
 use borrow.Author.Tests.{ltb-false, lt-ltb, le-ltb}
-use Rattle.io.specs.Counts.{IsPrefixLen}
 use Rattle.message.specs.Reader.{Outcome, read, refused}
 use Rattle.message.specs.Message.{Range, read_message}
 use Rattle.message.specs.WellFormed.{Bytes}
 use Rattle.message.specs.Code.{range_of}
 use Rattle.message.proofs.Exact.{differ, by_test}
+use Rattle.message.proofs.Order.{small_bytes}
 use Rattle.reader.specs.Answers.{counted}
 use Rattle.reader.specs.Private.{reading_at, ranges_of, ranges_at}
 use Rattle.reader.specs.Stepping.{starts}
 use Rattle.reader.specs.declared.range.RangeCursor.{RangeCursor}
 use Rattle.reader.specs.declared.range.RangeRead.{RangeRead}
 use Rattle.reader.proofs.Stepping.{Next, reading-starts}
-use Rattle.text.specs.Text.{too_long, line, refusal_line, lines, printed, shown, room, shown_in, put}
+use Rattle.text.specs.Text.{space, newline, too_long, line, refusal_line, lines, printed, shown, room, shown_in, put, IsPrefixLen}
 use Rattle.text.specs.Private.{Readable}
 use Rattle.text.proofs.Putting.{rest, joined, length-put, put-behind}
 use Rattle.text.proofs.Fitting.{printed_short, shown-fits}
+
+-- what a slice of bytes holds
+pub bytes_of : (m : List ℕ) → ((k : ℕ) → Fits w8 (get_or m k 0)) → Bytes m
+bytes_of m h = small_bytes m (λ k. omega (arith, h k))
 
 -- n bytes are written, and the cursor stands at c
 pub record Shows (m out₀ out : List ℕ) (c : RangeCursor) (n : ℕ) : Type 0 where
@@ -95,8 +100,8 @@ unfolding shown_in
 no_room out m h = rw (lt-ltb (length out) room h) refl
 
 module _ (out m : List ℕ) (wide : room ≤ length out) where
-  pub too_long_lem : 65536 < length m → shown_in out m ≡ too_long
-  unfolding shown_in shown
+  pub too_long_lem : 65536 < length m → shown_in out m ≡ 0x74 ∷ 0x6F ∷ 0x6F ∷ space ∷ 0x6C ∷ 0x6F ∷ 0x6E ∷ 0x67 ∷ newline ∷ []
+  unfolding shown_in shown too_long
   too_long_lem h = rw (le-ltb (length out) room wide, lt-ltb 65536 (length m) h) refl
 
   pub not-long : length m ≤ 65536 → shown_in out m ≡ printed (read_message m)

@@ -1,5 +1,5 @@
 -- SPEC 10, "The program showmsg": the text of a message, as the program prints it. Text is a list of ASCII codes.
-use Rattle.std.specs.Prelude.{ℕ, zero, suc, ◌+◌, ◌/◌, ◌%◌, ◌≤◌, cond, ltb, length, drop}
+use Rattle.std.specs.Prelude.{ℕ, zero, suc, ◌≡◌, ◌+◌, ◌/◌, ◌%◌, ◌≤◌, cond, ltb, length, take, drop}
 use mathlib.Core.List.{List, [], ◌∷◌, ◌++◌, map, flatten}
 use Rattle.message.specs.Reader.{Outcome, read, refused}
 use Rattle.message.specs.Bound.{Bound, infinity, finite, prefix}
@@ -96,3 +96,7 @@ shown_in out m = cond (ltb (length out) room) [] (shown m)
 -- a text written at the start of a buffer that has room for it
 unfoldable pub put : List ℕ → List ℕ → List ℕ
 put t out = t ++ drop (length t) out
+
+-- `&out[..n]` is in bounds and has n bytes
+abbrev pub IsPrefixLen : ℕ → List ℕ → Type 0
+IsPrefixLen n out = (n ≤ length out) × (n ≡ length (take n out))

@@ -36,15 +36,30 @@ fn part(m: &[u8], at: usize, n: usize) -> &[u8]
     &m[at..end]
 }
 
+// Writes s at the start of `out`, and answers how many bytes that are.
+#[tactic(auto, unfolding(crate::specs::Text::put))]
+pub(crate) fn copy(s: &[u8], out: &mut [u8]) -> usize
+    requires { length s.now ≤ length out.old }
+    ensures value { result ≡ length s.now }
+    ensures out_after { out.new ≡ put s.now out.old }
+{
+    out[..s.len()].copy_from_slice(s);
+    s.len()
+}
+
+// A number in decimal: the digits before the last one, then the last one.
 fn put_digits(out: &mut [u8], n: u64) -> usize
     requires { 20 ≤ length out.old }
     ensures value { (result ≡ length (spec.decimal n)) × (result ≤ 20) }
     ensures out_after { out.new ≡ put (spec.decimal n) out.old }
 {
-    let mut digits = [0u8; 20];
-    let k = io::decimal(n, &mut digits);
-    bytes::copy(&digits[..k], out);
-    k
+    if n < 10 {
+        out[0] = digit(n as u8);
+        return 1;
+    }
+    let k = put_digits(out, n / 10);
+    out[k] = digit((n % 10) as u8);
+    k + 1
 }
 
 // A number in decimal, and the code behind it.
@@ -90,7 +105,7 @@ fn put_time(out: &mut [u8], bound: Bound) -> usize
 {
     match bound {
         Bound::Infinity => {
-            bytes::copy(b"inf ", out);
+            copy(b"inf ", out);
             4
         }
         Bound::At { time, len: _ } => put_decimal(out, time, b' '),
@@ -103,7 +118,7 @@ fn put_prefix(out: &mut [u8], p: &[u8]) -> usize
     ensures out_after { out.new ≡ put (spaced (spec.prefix_field p.now)) out.old }
 {
     if p.len() == 0 {
-        bytes::copy(b"- ", out);
+        copy(b"- ", out);
         return 2;
     }
     put_hex(out, p, b' ')
@@ -115,7 +130,7 @@ fn put_fingerprint(out: &mut [u8], at: usize, m: &[u8]) -> usize
     ensures out_after { out.new ≡ put (payload_fields (payload_of (Payload.Fingerprint at) m.now)) out.old }
 {
     let f = part(m, at, 16);
-    bytes::copy(b"fingerprint ", out);
+    copy(b"fingerprint ", out);
     12 + put_hex(&mut out[12..], f, b'\n')
 }
 
@@ -124,7 +139,7 @@ fn put_ids(out: &mut [u8], count: usize, at: usize, m: &[u8]) -> usize
     ensures value { (result ≡ length (payload_fields (payload_of (Payload.Ids count at) m.now))) × (result ≤ 45) }
     ensures out_after { out.new ≡ put (payload_fields (payload_of (Payload.Ids count at) m.now)) out.old }
 {
-    bytes::copy(b"ids ", out);
+    copy(b"ids ", out);
     4 + put_decimal(&mut out[4..], count as u64, b'\n')
 }
 
@@ -135,7 +150,7 @@ fn put_payload(out: &mut [u8], payload: Payload, m: &[u8]) -> usize
 {
     match payload {
         Payload::Skip => {
-            bytes::copy(b"skip -\n", out);
+            copy(b"skip -\n", out);
             7
         }
         Payload::Fingerprint { at } => put_fingerprint(out, at, m),
@@ -162,6 +177,6 @@ pub(crate) fn put_refusal(out: &mut [u8], n: u64) -> usize
     ensures value { (result ≡ length (spec.refusal_line n)) × (result ≤ 131) }
     ensures out_after { out.new ≡ put (spec.refusal_line n) out.old }
 {
-    bytes::copy(b"refused ", out);
+    copy(b"refused ", out);
     8 + put_decimal(&mut out[8..], n, b'\n')
 }

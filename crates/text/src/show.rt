@@ -1,13 +1,12 @@
 // All that `showmsg` prints for a message, written into a buffer.
 ghost use Rattle.std.specs.Prelude.{◌≤◌, ◌≡◌, length};
-ghost use Rattle.io.specs.Counts.{IsPrefixLen};
 ghost use Rattle.message.specs.Message as format;
 ghost use Rattle.message.specs.Code.{range_of};
 ghost use Rattle.text.specs.Text as spec;
-ghost use Rattle.text.specs.Text.{put};
+ghost use Rattle.text.specs.Text.{IsPrefixLen, put};
 ghost use Rattle.text.specs.Private.{Readable};
 
-use crate::{put_line, put_refusal};
+use crate::{copy, put_line, put_refusal};
 use message::Range;
 use reader::check::{MessageRead, check_message};
 use reader::range::RangeCursor;
@@ -23,7 +22,7 @@ fn put_range(out: &mut [u8], range: Range, m: &[u8]) -> usize
 {
     let mut line = [0u8; 131];
     let n = put_line(&mut line, range, m);
-    bytes::copy(&line[..n], out);
+    copy(&line[..n], out);
     n
 }
 
@@ -47,6 +46,7 @@ fn put_ranges(out: &mut [u8], m: &[u8]) -> usize
 
 // Writes the text at the start of `out` and answers how many bytes it takes. Where `out` has less than `ROOM` bytes the answer is 0 and nothing
 // is written.
+#[tactic(auto, using(crate::proofs::Showing::too_long_lem))]
 pub fn show(m: &[u8], out: &mut [u8]) -> usize
     ensures value { result ≡ length (spec.shown_in out.old m.now) }
     ensures out_after { out.new ≡ put (spec.shown_in out.old m.now) out.old }
@@ -56,7 +56,7 @@ pub fn show(m: &[u8], out: &mut [u8]) -> usize
         return 0;
     }
     if 65536 < m.len() {
-        return bytes::copy(b"too long\n", out);
+        return copy(b"too long\n", out);
     }
     match check_message(m) {
         MessageRead::Refused { refusal } => put_refusal(out, refusal.number()),

@@ -2,7 +2,8 @@
 // the vectors of FIPS 180-4, and every length that meets the padding in another place. tests/vectors makes the same lines by sha256sum.
 #![tactic(auto)]
 
-use libc::STDOUT_FILENO;
+use std::alloc::{AllocError, Global};
+use std::io;
 
 fn digit(n: u8) -> u8 {
     if n < 10 {
@@ -14,14 +15,13 @@ fn digit(n: u8) -> u8 {
     b'?'
 }
 
-fn print(d: &[u8], name: &[u8]) {
-    for i in 0..d.len() {
-        let x = d[i];
-        io::write_all(STDOUT_FILENO, &[digit(x / 16), digit(x % 16)]);
+fn print(rt: &impl Print, d: &[u8], name: &[u8]) -> io::Result<()> {
+    for x in d {
+        rt.write_all(&[digit(x / 16), digit(x % 16)])?;
     }
-    io::write_all(STDOUT_FILENO, b"  ");
-    io::write_all(STDOUT_FILENO, name);
-    io::write_all(STDOUT_FILENO, b"\n");
+    rt.write_all(b"  ")?;
+    rt.write_all(name)?;
+    rt.write_all(b"\n")
 }
 
 // Bytes that differ from their neighbours.
@@ -44,21 +44,26 @@ fn all_lengths() -> [u8; 4192] {
     all
 }
 
-fn million() -> [u8; 1_000_000] {
-    [b'a'; 1_000_000]
+fn million(alloc: Global) -> Result<Vec<u8>, AllocError> {
+    vec![in alloc; b'a'; 1_000_000]
 }
 
-fn main() {
-    print(&sha256::digest(b""), b"empty");
-    print(&sha256::digest(b"abc"), b"abc");
+fn main(rt: HostRuntime) -> io::Result<()> {
+    print(&rt, &sha256::digest(b""), b"empty")?;
+    print(&rt, &sha256::digest(b"abc"), b"abc")?;
     let m448 = b"abcdbcdecdefdefgefghfghighijhijkijkljklmklmnlmnomnopnopq";
-    print(&sha256::digest(m448), b"448 bits");
+    print(&rt, &sha256::digest(m448), b"448 bits")?;
     let m896 =
         b"abcdefghbcdefghicdefghijdefghijkefghijklfghijklmghijklmnhijklmnoijklmnopjklmnopqklmnopqrlmnopqrsmnopqrstnopqrstu";
-    print(&sha256::digest(m896), b"896 bits");
-    print(&sha256::digest(&million()), b"a million times a");
+    print(&rt, &sha256::digest(m896), b"896 bits")?;
     print(
+        &rt,
+        &sha256::digest(&million(rt.alloc())?),
+        b"a million times a",
+    )?;
+    print(
+        &rt,
         &sha256::digest(&all_lengths()),
         b"the digests of 131 lengths",
-    );
+    )
 }

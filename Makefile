@@ -32,7 +32,7 @@ library $(LIBRARY):
 	@mkdir -p build && . scripts/setup && need_kit && library
 
 showmsg $(SHOWMSG):
-	@. scripts/setup && need_kit && rt check showmsg
+	@mkdir -p build && . scripts/setup && need_kit && program_showmsg
 
 reconcile: library
 reconcile $(RECONCILE): | $(LIBRARY)

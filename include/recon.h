@@ -155,6 +155,12 @@ typedef struct {
     recon_session session; /* the session afterwards */
 } recon_commit;
 
+/* What a judge of replies answers. */
+typedef struct {
+    uint64_t refusal; /* the number of the refusal, 0 for none */
+    bool approved;    /* whether the reply is approved; false where the call is refused */
+} recon_judgement;
+
 /* What the label of a run answers. */
 typedef struct {
     uint64_t refusal;  /* the number of the refusal, 0 for none; where the call is refused, the rest is 0 */
@@ -281,6 +287,16 @@ recon_commit recon_fold_commit(uint64_t *times, size_t times_len, uint8_t *ids, 
 uint64_t recon_fingerprint(const uint64_t *times, size_t times_len, const uint8_t *ids, size_t ids_len, bool lower_infinite,
                            uint64_t lower_time, const uint8_t *lower_prefix, size_t lower_prefix_len, bool upper_infinite,
                            uint64_t upper_time, const uint8_t *upper_prefix, size_t upper_prefix_len, uint8_t out[16]);
+
+/* Judges a reply: whether it is one that a responder with this table may give to this query, however it cuts. That is so exactly when both messages
+   can be read and begin with 0x61; wherever the query skips, or has a fingerprint that is the table's, the reply skips; inside any other fingerprint
+   range of the query the reply skips nowhere, and has ids throughout or at least two ranges that meet it; each fingerprint of the reply is the
+   table's, and each list has just the table's ids of its range, in any order; and where the query lists ids, the reply does. A message that cannot
+   be read is not approved, and no refusal. Nothing that is lent changes.
+   Every unrefused answer of recon_answer to a query that begins with 0x61 is approved, for any cut; one that was cut short by a byte limit may not be.
+   Refuses by 1 and 2. */
+recon_judgement recon_judge(const uint64_t *times, size_t times_len, const uint8_t *ids, size_t ids_len, const uint8_t *query, size_t query_len,
+                            const uint8_t *reply, size_t reply_len);
 
 /* SHA-256 (FIPS 180-4) of the m_len bytes at m, into the 32 bytes at out. Never refuses. */
 void recon_sha256(const uint8_t *m, size_t m_len, uint8_t out[32]);
@@ -421,6 +437,12 @@ static inline uint64_t recon_fingerprint_inline(const uint64_t *times, size_t ti
                              upper_time, RECON_BYTES(upper_prefix), out);
 }
 #define recon_fingerprint(...) recon_fingerprint_inline(__VA_ARGS__)
+
+static inline recon_judgement recon_judge_inline(const uint64_t *times, size_t times_len, const uint8_t *ids, size_t ids_len, const uint8_t *query,
+                                                 size_t query_len, const uint8_t *reply, size_t reply_len) {
+    return recon_judge(RECON_TIMES(times), RECON_BYTES(ids), RECON_BYTES(query), RECON_BYTES(reply));
+}
+#define recon_judge(...) recon_judge_inline(__VA_ARGS__)
 
 static inline void recon_sha256_inline(const uint8_t *m, size_t m_len, uint8_t out[32]) { recon_sha256(RECON_BYTES(m), out); }
 #define recon_sha256(...) recon_sha256_inline(__VA_ARGS__)

@@ -259,8 +259,8 @@ def read_rattle(path, text):
     source, words, constants = opened(path, text, "Rattle")
     while words.seek("#", "extern"):
         start = words.start()
-        if words.accept("#", "[", "no_mangle"):
-            words.expect("]", "pub", "extern", '"C"', "fn")
+        if words.accept("#", "[", "unsafe", "("):
+            words.expect("no_mangle", ")", "]", "pub", "extern", '"C"', "fn")
             function = rust_signature(words, constants, start)
             if words.peek() not in ("requires", "ensures", "{"):
                 words.fail("a contract or a body")
@@ -268,7 +268,7 @@ def read_rattle(path, text):
         elif words.accept("#", "[", "repr"):
             source.add(source.structs, rust_struct(words, constants, start))
         elif words.peek() == "extern":
-            words.fail("#[no_mangle] right before a function for other languages")
+            words.fail("#[unsafe(no_mangle)] right before a function for other languages")
         else:
             words.take()
     return source

@@ -141,6 +141,14 @@ uint64_t(recon_fingerprint)(const uint64_t *times, size_t times_len, const uint8
     return 12;
 }
 
+recon_judgement(recon_judge)(const uint64_t *times, size_t times_len, const uint8_t *ids, size_t ids_len, const uint8_t *query, size_t query_len,
+                             const uint8_t *reply, size_t reply_len) {
+    const recon_judgement answer = {12, true};
+    table(times, times_len, ids, ids_len);
+    slice(query, query_len), slice(reply, reply_len);
+    return answer;
+}
+
 void(recon_sha256)(const uint8_t *m, size_t m_len, uint8_t out[32]) {
     slice(m, m_len);
     slice(out, 32);
@@ -275,6 +283,8 @@ static void all_calls(void) {
     expect("recon_fingerprint", "TB03B15BO", 2, lower == 12);
     uint64_t upper = recon_fingerprint(TIMES(0), BYTES(1), true, evaluated(3), BYTES(2), false, evaluated(5), BYTES(3), bytes);
     expect("recon_fingerprint", "TB13B05BO", 2, upper == 12);
+    recon_judgement judged = recon_judge(TIMES(0), BYTES(1), BYTES(2), BYTES(3));
+    expect("recon_judge", "TBBB", 0, judged.refusal == 12 && judged.approved);
     recon_sha256(BYTES(0), bytes);
     expect("recon_sha256", "BO", 0, 1);
     uint64_t built = recon_tree_build(TIMES(0), BYTES(1), BYTES(2));

@@ -7,7 +7,7 @@
 #include "recon.h"
 
 /* Which slices are empty, as a set. */
-enum { TIMES = 1, IDS = 2, OUT = 4, MESSAGE = 8, MARKS = 16, NEEDED = 32, LOWER = 8, UPPER = 16, TREE = 4, ID = 8, BATCH_TIMES = 4, BATCH_IDS = 8 };
+enum { TIMES = 1, IDS = 2, OUT = 4, MESSAGE = 8, MARKS = 16, NEEDED = 32, LOWER = 8, UPPER = 16, TREE = 4, ID = 8, BATCH_TIMES = 4, BATCH_IDS = 8, QUERY = 16 };
 
 /* A slice as two arguments: null and 0, or what is given. */
 #define NULL_OR(which, p, n) (empty & (which) ? NULL : (p)), (empty & (which) ? 0 : (n))
@@ -189,6 +189,19 @@ static void fingerprinted(unsigned empty) {
     expect("recon_fingerprint", empty, x == y && memcmp(&a, &b, sizeof a) == 0);
 }
 
+/* The message lists no ids of all items, as a query; as a reply it is approved by a table of none. */
+static void judged(unsigned empty) {
+    lent a = fresh(), b = fresh();
+    recon_judgement x = recon_judge(NULL_OR(TIMES, a.times, 2), NULL_OR(IDS, a.ids, 64), NULL_OR(QUERY, a.message, 5), NULL_OR(MESSAGE, a.message, 5));
+    recon_judgement y = (recon_judge)(SOME_OR(TIMES, b.times, 2), SOME_OR(IDS, b.ids, 64), SOME_OR(QUERY, b.message, 5), SOME_OR(MESSAGE, b.message, 5));
+    unrefused += x.refusal == RECON_OK;
+    expect("recon_judge", empty, x.refusal == y.refusal && x.approved == y.approved && memcmp(&a, &b, sizeof a) == 0);
+    if (empty == (TIMES | IDS))
+        expect("recon_judge of no items", empty, x.refusal == RECON_OK && x.approved);
+    if (empty == 0)
+        expect("recon_judge of two items", empty, x.refusal == RECON_OK && !x.approved);
+}
+
 static void digested(unsigned empty) {
     lent a = fresh(), b = fresh();
     recon_sha256(NULL_OR(TIMES, a.message, 5), a.out);
@@ -241,6 +254,7 @@ int main(void) {
         inquired(empty);
         committed(empty);
         fingerprinted(empty);
+        judged(empty);
         digested(empty);
         built(empty);
         appended(empty);

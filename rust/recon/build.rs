@@ -1,4 +1,4 @@
-//! Links the proved library: librecon.a, as it is installed, or libcapi.a, as `rt staticlib capi` writes it. Documentation and
+//! Links the proved library: librecon.a, as it is installed, or libcapi.a, as `make library` leaves it. Documentation and
 //! `cargo check` need no library, so a missing one is no error here; what links it then fails.
 use std::env;
 use std::path::PathBuf;
@@ -39,7 +39,7 @@ fn missing(folders: &[PathBuf]) {
     }
     let folders: Vec<String> = folders.iter().map(|folder| folder.display().to_string()).collect();
     println!(
-        "cargo:warning=nothing can be linked: there is no librecon.a and no libcapi.a in {}. Run `rt staticlib capi`, or set \
+        "cargo:warning=nothing can be linked: there is no librecon.a and no libcapi.a in {}. Run `make library`, or set \
          RECON_LIB_DIR to the folder that has one of them",
         folders.join(" or ")
     );

@@ -57,7 +57,7 @@ without_library() { RECON_LIB_DIR=$top/build/recon/empty in_crate "$@" --target-
 check 'documentation without the library' without_library doc --no-deps
 check 'documentation without features' without_library doc --no-deps --no-default-features
 check 'a check without the library' without_library check --all-targets
-missing='no librecon.a and no libcapi.a in .*/empty. Run .rt staticlib capi., or set RECON_LIB_DIR'
+missing='no librecon.a and no libcapi.a in .*/empty. Run .make library., or set RECON_LIB_DIR'
 check 'nothing is linked without the library' fails_by "$missing" without_library build --example session
 
 echo "ok: $passed checks of the crate recon"

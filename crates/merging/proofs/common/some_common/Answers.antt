@@ -1,6 +1,7 @@
 -- `merging::common::some_common` meets its contract. The invariant: there is a common item just if there is one from places i and j on.
 use Prim.Native.Nat.{◌-◌}
-use mathlib.Core.Path.{refl, sym, ◌∙◌}
+use mathlib.Core.Path.{refl, sym, ap, ◌∙◌}
+use mathlib.Core.Bool.{not}
 use native.Mathlib.Omega.{arith}
 use Rattle.message.specs.WellFormed.{Bytes}
 use Rattle.message.proofs.Order.{small_bytes}

@@ -5,5 +5,5 @@ use Rattle.capi.specs.declared.judge.Judgement.{Judgement}
 
 -- the number 0, and yes or no; the number of the refusal and no
 abbrev pub told_judgement : Answer Bool → Judgement
-told_judgement (answer yes) = record { refusal = 0; approved = yes }
+told_judgement (answer approved) = record { refusal = 0; approved = approved }
 told_judgement (refused k) = record { refusal = k; approved = false }

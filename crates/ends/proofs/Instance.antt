@@ -1,6 +1,7 @@
 -- All that `Demand3`, `Demand3Mixed` with takes handed other tables, `KnowsItsTable`, `WhoeverOpens` and `TrueAndComplete` ask for can be met, on bytes.
 use mathlib.Core.Path.{◌≡◌, refl, sym, ap, ◌∙◌}
 use mathlib.Core.Logic.{◌⊎◌, ◌↔◌, inl, inr, ⊎_elim}
+use mathlib.Core.List.Memᴰ
 use mathlib.Core.List.{List, [], ◌∷◌, ◌++◌, flatten, zip_with, Memᴰ}
 use Prim.Native.Nat.{ℕ, ◌≤◌}
 use native.Mathlib.Omega.{arith}
@@ -47,7 +48,7 @@ Either i = (i ≡ record { time = 5; id = starting 0x01 }) ⊎ Memᴰ i (record 
 
 one_time : OneTime (items ours ++ items theirs)
 unfolding items ids_in zip_with
-one_time i j mi mj e = by (mathlib.Core.List.Memᴰ.cases_cons mi) (mathlib.Core.List.Memᴰ.cases_cons mj)
+one_time i j mi mj e = by (Memᴰ.cases_cons mi) (Memᴰ.cases_cons mj)
   where
     id_of_lem : {i j : Item} → i ≡ j → i.id ≡ j.id
     id_of_lem = ap (λ (i : Item). i.id)
@@ -57,9 +58,9 @@ one_time i j mi mj e = by (mathlib.Core.List.Memᴰ.cases_cons mi) (mathlib.Core
 
     by : Either i → Either j → i.time ≡ j.time
     by (inl p) (inl q) = time_of (p ∙ sym q)
-    by (inl p) (inr q) = two-ids (sym (id_of_lem p) ∙ e ∙ id_of_lem (mathlib.Core.List.Memᴰ.eq_of_singleton q))
-    by (inr p) (inl q) = two-ids (sym (id_of_lem q) ∙ sym e ∙ id_of_lem (mathlib.Core.List.Memᴰ.eq_of_singleton p))
-    by (inr p) (inr q) = time_of (mathlib.Core.List.Memᴰ.eq_of_singleton p ∙ sym (mathlib.Core.List.Memᴰ.eq_of_singleton q))
+    by (inl p) (inr q) = two-ids (sym (id_of_lem p) ∙ e ∙ id_of_lem (Memᴰ.eq_of_singleton q))
+    by (inr p) (inl q) = two-ids (sym (id_of_lem q) ∙ sym e ∙ id_of_lem (Memᴰ.eq_of_singleton p))
+    by (inr p) (inr q) = time_of (Memᴰ.eq_of_singleton p ∙ sym (Memᴰ.eq_of_singleton q))
 
 pub not-both : {C : Type 0} {k n : ℕ} → ◌≡◌ {A = Answer ℕ} (refused k) (answer n) → C
 not-both e = let z : ◌≡◌ {A = ℕ} 0 1 = cc in absurd (omega arith)
@@ -75,14 +76,14 @@ unfolding each_range
 no-fingerprint {x = x} {y = y} h f =
     let z : ◌≡◌ {A = Outcome (List Range)} (read f.ranges []) (read (range infinity (ids h.0) ∷ []) []) = sym f.says ∙ h.1 in
     let one : f.ranges ≡ range infinity (ids h.0) ∷ [] = cc in
-    let p : ◌≡◌ {A = Bound × Bound × Payload} (x, y, fingerprint f.bytes) (start, infinity, ids h.0) = mathlib.Core.List.Memᴰ.eq_of_singleton (rw one at f.stands) in
+    let p : ◌≡◌ {A = Bound × Bound × Payload} (x, y, fingerprint f.bytes) (start, infinity, ids h.0) = Memᴰ.eq_of_singleton (rw one at f.stands) in
     let q : ◌≡◌ {A = Payload} (fingerprint f.bytes) (ids h.0) = ap (λ (w : Bound × Bound × Payload). w.2) p in
     let n : ◌≡◌ {A = ℕ} 0 1 = cc in omega arith
 
 pub none_collides : (A B : Table) (p : Place) (q r : List ℕ) → p.handed ≡ (q, r) ∷ [] → Lists q → Lists r → NoneCollides A B p
 none_collides A B p q r h lq lr i c =
     let k = c.compared in
-    let e : ◌≡◌ {A = List ℕ × List ℕ} (k.query, k.reply) (q, r) = mathlib.Core.List.Memᴰ.eq_of_singleton (rw h at k.handed) in
+    let e : ◌≡◌ {A = List ℕ × List ℕ} (k.query, k.reply) (q, r) = Memᴰ.eq_of_singleton (rw h at k.handed) in
     ⊎_elim
     (λ f. no-fingerprint lq (rw (ap (λ (w : List ℕ × List ℕ). w.0) e) at f)) (λ f. no-fingerprint lr (rw (ap (λ (w : List ℕ × List ℕ). w.1) e) at f))
     k.stands
@@ -104,7 +105,7 @@ unfolding read_message read_ranges read_range read_bound read_coded read_prefix 
 met =
     let answers : Answers ours theirs two two query reply = record { out = replicate 37 0; size = 37; unrefused = refl; written = refl } in
     let answers-back : Answers theirs ours two two reply query = record { out = replicate 37 0; size = 37; unrefused = refl; written = refl } in
-    let sent-and-answered : Memᴰ query (query ∷ []) × Answers ours theirs two two query reply = (mathlib.Core.List.Memᴰ.head refl, answers) in
+    let sent-and-answered : Memᴰ query (query ∷ []) × Answers ours theirs two two query reply = (Memᴰ.head refl, answers) in
     let handed : HandedAnswers ours theirs two two (opening ours two lent) takes =
     (λ n e. not-both e, (λ n e. not-both e, (λ n e. sent-and-answered, tt))) in
     record {
@@ -121,14 +122,14 @@ met =
       both = (
         record {
           forth = record { lent = lent; size = 37; opens = refl; takes = takes; handed = handed; done = refl };
-          back = record { lent = lent; size = 37; opens = refl; takes = takes_back; handed = (λ n e. (mathlib.Core.List.Memᴰ.head refl, answers-back), tt); done = refl };
+          back = record { lent = lent; size = 37; opens = refl; takes = takes_back; handed = (λ n e. (Memᴰ.head refl, answers-back), tt); done = refl };
           none_forth = none_collides ours theirs _ query reply refl (starting 0x01 ∷ [], refl) (starting 0x02 ∷ [], refl);
           none_back = none_collides theirs ours _ reply query refl (starting 0x02 ∷ [], refl) (starting 0x01 ∷ [], refl);
         },
         refl,
         refl,
       );
-      mixed = (_, then_taken (then_refused (then_refused none take₁ 6 refl) take₂ 11 refl) take₃ 0 refl (mathlib.Core.List.Memᴰ.head refl) (two, answers), refl);
+      mixed = (_, then_taken (then_refused (then_refused none take₁ 6 refl) take₂ 11 refl) take₃ 0 refl (Memᴰ.head refl) (two, answers), refl);
       others = record {
         exchanged_first = refl;
         more_first = refl;
@@ -137,7 +138,7 @@ met =
         place = _;
         takes =
             then_refused
-            (then_taken (then_refused (then_refused none (handed_with exchanged) 18 refl) (handed_with more) 4 refl) (handed_with ours) 0 refl (mathlib.Core.List.Memᴰ.head refl)
+            (then_taken (then_refused (then_refused none (handed_with exchanged) 18 refl) (handed_with more) 4 refl) (handed_with ours) 0 refl (Memᴰ.head refl)
             (λ e. refl, (unlimited, to_last, record { out = replicate 37 0; size = 37; unrefused = refl; written = refl })))
             (handed_with exchanged) 18 refl;
         exchanged_then = refl;

@@ -2,6 +2,7 @@
 use Prim.Native.Nat.{ℕ, zero, suc, ◌<◌}
 use mathlib.Core.Path.{◌≡◌, refl, sym, ap, ◌∙◌}
 use mathlib.Core.Bool.{Bool, true, false}
+use mathlib.Core.List.Memᴰ
 use mathlib.Core.List.{List, [], ◌∷◌, ◌++◌, map, flatten, append-nil, Memᴰ}
 use mathlib.Core.Logic.{◌⊎◌, inl, inr, ⊎_elim}
 use native.Mathlib.Omega.{arith}
@@ -82,8 +83,8 @@ bit_one false e = absurd (omega arith)
 marked-item : (f : ℕ → Bool) (is : List Item) (j : ℕ) → j < length is → get_or (marks_of f is) j 0 ≡ 1
     → (i : Item) × Memᴰ i is × (get_or (ids_of is) j [] ≡ i.id) × (f (key_of i) ≡ true)
 marked-item f [] j lt e = absurd (omega arith)
-marked-item f (i ∷ is) zero lt e = (i, mathlib.Core.List.Memᴰ.head refl, refl, bit_one (f (key_of i)) e)
-marked-item f (i ∷ is) (suc j) lt e = let w = marked-item f is j (omega arith) e in (w.0, mathlib.Core.List.Memᴰ.tail w.1, w.2, w.3)
+marked-item f (i ∷ is) zero lt e = (i, Memᴰ.head refl, refl, bit_one (f (key_of i)) e)
+marked-item f (i ∷ is) (suc j) lt e = let w = marked-item f is j (omega arith) e in (w.0, Memᴰ.tail w.1, w.2, w.3)
 
 item-mark : (f : ℕ → Bool) (is : List Item) (i : Item) → Memᴰ i is → f (key_of i) ≡ true
     → (j : ℕ) × (j < length is) × (get_or (ids_of is) j [] ≡ i.id) × (get_or (marks_of f is) j 0 ≡ 1)
@@ -91,7 +92,7 @@ item-mark f [] i m h = elim m [ ]
 item-mark f (z ∷ is) i m h =
     ⊎_elim (λ e. (0, omega arith, ap (λ (z : Item). z.id) (sym e), ap (λ (z : Item). bit (f (key_of z))) (sym e) ∙ ap bit h))
     (λ n. let w = item-mark f is i n h in (suc w.0, let l = w.1 in omega arith, w.2, w.3))
-    (mathlib.Core.List.Memᴰ.cases_cons m)
+    (Memᴰ.cases_cons m)
 
 -- ---- a range with a fingerprint in the theory's message is one in the bytes
 
@@ -116,7 +117,7 @@ stands_cases (there st) = inr st
 
 further : (l u : Bound) (p : Payload) (rs : List Range) {x y : ℕ} {f : List ℕ} → Bounds x y (StandsWith u rs f) → Bounds x y (StandsWith l (range u p ∷ rs) f)
 unfolding each_range
-further l u p rs w = bounds-map (λ lower upper m. mathlib.Core.List.Memᴰ.tail m) w
+further l u p rs w = bounds-map (λ lower upper m. Memᴰ.tail m) w
 
 stands_bounds : (l : Bound) (rs : List Range) {x y : ℕ} {f : List ℕ} → Stands (key l) (project rs) x y (T.fingerprint f) → Bounds x y (StandsWith l rs f)
 unfolding each_range project payload
@@ -127,7 +128,7 @@ stands_bounds l (range u (M.ids is) ∷ rs) st =
     ⊎_elim (λ e. absurd (fingerprint≢ids (sym e.2))) (λ z. further l u (M.ids is) rs (stands_bounds u rs z)) (stands_cases st)
 stands_bounds l (range u (M.fingerprint g) ∷ rs) {f = f} st =
     ⊎_elim
-    (λ e. let z : g ≡ f = cc e.2 in record { lower = l; upper = u; low = e.0; high = e.1; holds = mathlib.Core.List.Memᴰ.head (rw z) })
+    (λ e. let z : g ≡ f = cc e.2 in record { lower = l; upper = u; low = e.0; high = e.1; holds = Memᴰ.head (rw z) })
     (λ z. further l u (M.fingerprint g) rs (stands_bounds u rs z)) (stands_cases st)
 
 module _ (A B : Table) (k_a : OwnItems (items A)) (k_b : OwnItems (items B)) where
@@ -141,7 +142,7 @@ module _ (A B : Table) (k_a : OwnItems (items A)) (k_b : OwnItems (items B)) whe
       let wy = all_mem Whole k_b.whole y.1 in
       let n = sym (id-number x.0 wx) ∙ ap protocol.id_of (sym x.2) ∙ e ∙ ap protocol.id_of y.2 ∙ id-number y.0 wy in
       let d = number_alone x.0.id y.0.id wx wy n in
-      let t = once x.0 y.0 (mathlib.Core.List.Memᴰ.append_left (items B) x.1) (mathlib.Core.List.Memᴰ.append_right (items A) y.1) d in
+      let t = once x.0 y.0 (Memᴰ.append_left (items B) x.1) (Memᴰ.append_right (items A) y.1) d in
       x.2 ∙ same_key x.0 y.0 t d ∙ sym y.2
 
   module _ (x y : Bound) {lower upper : ℕ} (low : key x ≡ lower) (high : key y ≡ upper) where

@@ -42,7 +42,7 @@ use Rattle.walk.specs.Walking.{starts, Walking, Stepped}
 use Rattle.walk.specs.declared.Walk.{Walk}
 use Rattle.walk.specs.declared.Step.{Step}
 use Rattle.walk.proofs.Steps.{lower-starts}
-use Rattle.exchange.specs.Given as goal
+use Rattle.exchange.specs.Given as given
 use Rattle.exchange.proofs.Treating.{becomes, becomes_step, becomes_end, treat-skip, treat-equal, treat-other, treat-ids}
 use Rattle.limit.specs.Limit.{run_end}
 use Rattle.limit.proofs.Reading.{end-append, followed}
@@ -82,9 +82,9 @@ module _ (listing : Bool) (c : Cut) (o : outside_limits c ≡ false) (is : List 
   unfolding cut
   cut-long t = rw t refl
 
-  other : (f : List ℕ) → same f (fingerprint_of own) ≡ false → Made y own (leb (length own) c.limit) (treat (goal.given listing) c is x y (fingerprint f))
+  other : (f : List ℕ) → same f (fingerprint_of own) ≡ false → Made y own (leb (length own) c.limit) (treat (given.given listing) c is x y (fingerprint f))
   other f h =
-      let is_cut = treat-other (goal.given listing) c is x y own e f h in
+      let is_cut = treat-other (given.given listing) c is x y own e f h in
       by_test (leb (length own) c.limit)
       (λ t. one_list t (is_cut ∙ cut_short t))
       (λ t.
@@ -94,22 +94,22 @@ module _ (listing : Bool) (c : Cut) (o : outside_limits c ≡ false) (is : List 
       let some = parts-end ps y (some_parts (sizes c.odd c.parts (length own)) own c.parts (length own) (sizes_fit c.odd c.parts (length own) (omega arith) (omega arith)) (omega arith)) in
       rw (is_cut, cut-long t) (prints t (parts-print ps y) some.0 some.1))
 
-  made_is : (p : P.Payload) (m : List ℕ) → Made y own (lists_own listing c.limit (length own) p) (treat (goal.given listing) c is x y (payload_of p m))
-  made_is P.Payload.Skip m = one-skip (treat-skip (goal.given listing) c is x y own e)
+  made_is : (p : P.Payload) (m : List ℕ) → Made y own (lists_own listing c.limit (length own) p) (treat (given.given listing) c is x y (payload_of p m))
+  made_is P.Payload.Skip m = one-skip (treat-skip (given.given listing) c is x y own e)
   made_is (P.Payload.Fingerprint at) m =
       by_test (same (payload m) (fingerprint_of own))
-      (λ t. one-skip (treat-equal (goal.given listing) c is x y own e (payload m) t))
+      (λ t. one-skip (treat-equal (given.given listing) c is x y own e (payload m) t))
       (λ t. other (payload m) t)
     where
       payload : List ℕ → List ℕ
       payload m = take 16 (drop at m)
   made_is (P.Payload.Ids n at) m = by listing refl
     where
-      by : (b : Bool) → listing ≡ b → Made y own listing (treat (goal.given listing) c is x y (payload_of (P.Payload.Ids n at) m))
-      by true t = rw t (one_list refl (treat-ids (goal.given true) c is x y own e _))
-      by false t = rw t (one-skip (treat-ids (goal.given false) c is x y own e _))
+      by : (b : Bool) → listing ≡ b → Made y own listing (treat (given.given listing) c is x y (payload_of (P.Payload.Ids n at) m))
+      by true t = rw t (one_list refl (treat-ids (given.given true) c is x y own e _))
+      by false t = rw t (one-skip (treat-ids (given.given false) c is x y own e _))
 
-  pub made_counted : (p : P.Payload) (m : List ℕ) (k : ℕ) → k ≡ length own → Made y own (lists_own listing c.limit k p) (treat (goal.given listing) c is x y (payload_of p m))
+  pub made_counted : (p : P.Payload) (m : List ℕ) (k : ℕ) → k ≡ length own → Made y own (lists_own listing c.limit k p) (treat (given.given listing) c is x y (payload_of p m))
   made_counted p m k q = rw q (made_is p m)
 
 -- ---- skips that wait
@@ -177,7 +177,7 @@ time-below (finite t p) h =
 -- what the ranges up to the walk become was taken; `kept` is the place of the last bound that is written
 pub record Going (listing : Bool) (c : Cut) (T : Table) (m : List ℕ) (n kept : ℕ) (w : Walk) (wr : Writer) : Type 0 where
   pub sofar : List Range
-  pub splits : sofar ++ becomes (treat (goal.given listing) c (items T)) m w ≡ goal.made listing c (items T) (ranges_at m starts.cursor)
+  pub splits : sofar ++ becomes (treat (given.given listing) c (items T)) m w ≡ given.made listing c (items T) (ranges_at m starts.cursor)
   pub stands : Behind n sofar wr
   pub walking : Walking T m w
   pub ends : run_end start sofar ≡ lower_at w.cursor
@@ -185,10 +185,10 @@ pub record Going (listing : Bool) (c : Cut) (T : Table) (m : List ℕ) (n kept :
 
 module _ (listing : Bool) (c : Cut) (T : Table) (m : List ℕ) (by : Bytes T.ids) (ok : Passed T) (o : outside_limits c ≡ false) (n : ℕ) where
   abbrev f : Bound → Bound → Payload → List Range
-  f = treat (goal.given listing) c (items T)
+  f = treat (given.given listing) c (items T)
 
   abbrev whole : List Range
-  whole = goal.made listing c (items T) (ranges_at m starts.cursor)
+  whole = given.made listing c (items T) (ranges_at m starts.cursor)
 
   abbrev zeros : List ℕ
   zeros = replicate n 0

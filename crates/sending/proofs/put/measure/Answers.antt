@@ -18,11 +18,10 @@ use Rattle.sending.proofs.put.measure.Goals as goal
 
 pub returns-then-not-is_taken : goal.returns-then-not-is_taken
 returns-then-not-is_taken c =
-    let both = (
-  no_start _ _ (ap is_taken (sym c.start-begun.ensures.written_value) ∙ sym c.is_taken.ensures ∙ c.if-not-is_taken.true),
-  λ e. clash e refl,
-) in
-    record { fits_value = both.0; length_value = both.1 }
+    record {
+      fits_value = no_start _ _ (ap is_taken (sym c.start-begun.ensures.written_value) ∙ sym c.is_taken.ensures ∙ c.if-not-is_taken.true);
+      length_value = λ e. clash e refl;
+    }
 
 pub returns : goal.returns
 returns c =
@@ -32,8 +31,7 @@ returns c =
     let bm : Bytes c.args.m.now = small_bytes c.args.m.now (λ k. omega (arith, c.type_inv.m k)) in
     let room = start-room _ (ap is_taken (sym c.start-begun.ensures.written_value) ∙ sym c.is_taken.ensures ∙ c.if-not-is_taken.false) in
     let h = handed in
-    let both = (
-      c.is_taken-2.ensures ∙ measured _ c.args.size _ h (sent-rises (table) (cut_of c.args.cut) by c.requires.0 c.requires.1 c.args.kind c.args.m.now bm c.requires.2) room,
-      λ e. measured_length _ c.args.size _ h (sym c.is_taken-2.ensures ∙ e),
-    ) in
-    record { fits_value = both.0; length_value = both.1 }
+    record {
+      fits_value = c.is_taken-2.ensures ∙ measured _ c.args.size _ h (sent-rises (table) (cut_of c.args.cut) by c.requires.0 c.requires.1 c.args.kind c.args.m.now bm c.requires.2) room;
+      length_value = λ e. measured_length _ c.args.size _ h (sym c.is_taken-2.ensures ∙ e);
+    }

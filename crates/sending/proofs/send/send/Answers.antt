@@ -3,7 +3,7 @@ use Prim.Native.Nat.{◌<◌}
 use mathlib.Core.Path.{sym, ◌∙◌}
 use mathlib.Core.List.{List}
 use lib.ListN.{length}
-use borrow.Author.Tests.{leb-true, leb-false}
+use borrow.Author.Tests.{leb-true, leb-false, not-true, not-false}
 use Rattle.message.specs.Message.{Range}
 use Rattle.message.specs.Meaning.{write_message}
 use Rattle.table.specs.Code.{lent}
@@ -19,12 +19,12 @@ pub returns-then-not-measured : goal.returns-then-not-measured
 returns-then-not-measured c =
     let table : Table = lent c.args.times.now c.args.own.now in
     let whole : List Range = to_send c.args.kind (cut_of c.args.cut) (table) c.args.m.now in
-    let long : length c.args.out.now < length (write_message (whole)) = leb-false _ _ (sym c.measure-measured.ensures.fits_value ∙ c.if-not-measured.true) in
+    let long : length c.args.out.now < length (write_message (whole)) = leb-false _ _ (sym c.measure-measured.ensures.fits_value ∙ not-true _ c.if-not-measured.true) in
     rw (c.in-Unlimited.is, unlimited-whole (items (table)) (whole)) (no_room (write_message (whole)) c.args.out.now long)
 
 pub send_whole-requires : goal.send_whole-requires
 send_whole-requires c =
-    (c.requires.0, c.requires.1, c.requires.2, c.measure-measured.ensures.length_value c.if-not-measured.false)
+    (c.requires.0, c.requires.1, c.requires.2, c.measure-measured.ensures.length_value (not-false _ c.if-not-measured.false))
 
 pub returns-else-not-measured : goal.returns-else-not-measured
 returns-else-not-measured c =

@@ -49,7 +49,7 @@ returns-in-Refused c =
     let bm : Bytes c.args.m.now = small_bytes c.args.m.now (λ k. omega (arith, c.type_inv.m k)) in
     let by = bytes in
     let well = made-rises (table) (cut_of c.args.cut) by c.requires.0 c.requires.1 c.args.listing c.args.m.now bm c.requires.2 in
-    reply_stops c.args.listing (cut_of c.args.cut) (table) c.args.m.now by c.requires.0 c.requires.1 c.args.size l.auto l.walk l.writer l.invariant
+    reply_stops c.args.listing (cut_of c.args.cut) (table) c.args.m.now by c.requires.0 c.requires.1 c.args.size l.kept l.walk l.writer l.invariant
     c.step-step.result c.step-step.ensures c.put_treated-answer.result (one) well _ (ap verdict_of c.in-Refused.is) c.lists_own.result c.lists_own.ensures
 
 pub loop-walk-smaller : goal.loop-walk-smaller
@@ -67,7 +67,7 @@ loop-walk-preserved c =
     let st = c.step-step.result in
     HandsOver false (treat (given c.args.listing) (cut_of c.args.cut) (items (table)) (lower_at l.walk.cursor) (upper_of st.span) (payload_of st.payload c.args.m.now)) (before l.writer (replicate c.args.size 0)) (after c.put_treated-answer.result (replicate c.args.size 0)) = c.put_treated-answer.ensures (lower_at c.loop-walk.walk.cursor) c.step-step.ensures.own in
     let l = c.loop-walk in
-    going_next c.args.listing (cut_of c.args.cut) (table) c.args.m.now (bytes) c.requires.0 c.requires.1 c.args.size l.auto l.walk l.writer l.invariant
+    going_next c.args.listing (cut_of c.args.cut) (table) c.args.m.now (bytes) c.requires.0 c.requires.1 c.args.size l.kept l.walk l.writer l.invariant
     c.step-step.result c.step-step.ensures c.put_treated-answer.result (one) (ap verdict_of c.in-Taken.is) c.kept_place-kept.result c.kept_place-kept.ensures
 
 pub returns : goal.returns
@@ -75,4 +75,4 @@ returns c =
     let table : Table = lent c.args.times.now c.args.own.now in
     let bytes : Bytes c.args.own.now = small_bytes c.args.own.now (λ k. omega (arith, c.type_inv.own k)) in
     let l = c.loop-walk in
-    absurd (going_end c.args.listing (cut_of c.args.cut) (table) c.args.m.now (bytes) c.requires.0 c.requires.1 c.args.size l.auto l.walk l.writer l.invariant c.loop-walk-test.false c.requires.4)
+    absurd (going_end c.args.listing (cut_of c.args.cut) (table) c.args.m.now (bytes) c.requires.0 c.requires.1 c.args.size l.kept l.walk l.writer l.invariant c.loop-walk-test.false c.requires.4)

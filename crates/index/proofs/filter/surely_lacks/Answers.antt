@@ -49,4 +49,4 @@ returns-then-filtered c =
     clash t (rw v refl)
 
 pub returns : goal.returns
-returns c = clash e refl
+returns c = λ e. clash e refl

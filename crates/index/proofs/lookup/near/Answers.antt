@@ -22,13 +22,13 @@ returns c =
     }
 
 pub returns-then-hint-eq0 : goal.returns-then-hint-eq0
-returns-then-hint-eq0 c = clash e refl
+returns-then-hint-eq0 c = λ e. clash e refl
 
 pub returns-then-n-hint : goal.returns-then-n-hint
-returns-then-n-hint c = clash e refl
+returns-then-n-hint c = λ e. clash e refl
 
 pub returns-then-n-hint-eq1 : goal.returns-then-n-hint-eq1
-returns-then-n-hint-eq1 c = clash e refl
+returns-then-n-hint-eq1 c = λ e. clash e refl
 
 pub returns-then-first-below : goal.returns-then-first-below
-returns-then-first-below c = clash e refl
+returns-then-first-below c = λ e. clash e refl

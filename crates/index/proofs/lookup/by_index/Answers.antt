@@ -4,7 +4,6 @@ use mathlib.Core.Path.{◌≡◌, refl, ap, ◌∙◌}
 use mathlib.Core.Bool.{cond}
 use native.Mathlib.Omega.{arith}
 use lib.ListN.{length, get_or, length-drop}
-use borrow.Author.Rules.{rules}
 use Rattle.reader.proofs.Listing.{part-from}
 use Rattle.index.specs.Lookup.{listed}
 use Rattle.index.proofs.Finding.{none-noted, more-noted}
@@ -34,8 +33,7 @@ loop-done-preserved c =
     let a = c.args in
     let l = c.loop-done in
     let t = c.note in
-    let e = rw (part-from a.list.now (l.done * 32)) at t.ensures in
-    (
+    let e = rw (part-from a.list.now (l.done * 32)) at t.ensures in (
       t.auto.words ∙ l.invariant.0,
       t.auto.pos ∙ l.invariant.1,
       t.auto.found ∙ l.invariant.2,

@@ -1,6 +1,5 @@
 -- `index::lookup::direction` meets its contract. The invariant: no more rises than ids are counted.
-use Prim.Native.Nat.{◌+◌, ◌-◌, ◌≤◌}
-use mathlib.Core.Path.{◌≡◌}
+use Prim.Native.Nat.{◌+◌, ◌≤◌}
 use native.Mathlib.Omega.{arith}
 use Rattle.index.proofs.lookup.direction.Goals as goal
 use Rattle.index.proofs.lookup.direction.Goals.{then-word, else-word}

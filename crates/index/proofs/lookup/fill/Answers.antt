@@ -1,5 +1,5 @@
 -- `index::lookup::fill` meets its contract. The invariant: the first i places and words are written.
-use Prim.Native.Nat.{◌-◌, ◌*◌}
+use Prim.Native.Nat.{◌*◌}
 use mathlib.Core.Path.{◌≡◌, refl, ◌∙◌}
 use native.Mathlib.Omega.{arith}
 use lib.ListN.{length, drop, length-set}
@@ -11,8 +11,7 @@ pub loop-i-preserved : goal.loop-i-preserved
 loop-i-preserved c =
     let wide : length c.loop-i.words ≡ length c.args.words.now = c.loop-i.invariant.0 in
     let long : length c.loop-i.pos ≡ length c.args.pos.now = c.loop-i.invariant.1 in
-    let l = c.loop-i in
-    (
+    let l = c.loop-i in (
       length-set l.words l.i c.word.result ∙ l.invariant.0,
       length-set l.pos l.i (l.i * 32) ∙ l.invariant.1,
       omega arith,

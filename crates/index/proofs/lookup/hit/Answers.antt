@@ -33,8 +33,7 @@ pub returns-then-surely_lacks : goal.returns-then-surely_lacks
 returns-then-surely_lacks c =
     let small-ids : Small c.args.ids.now = λ k. omega (arith, c.type_inv.ids k) in
     let small-id : Small c.args.id.now = λ k. omega (arith, c.type_inv.id k) in
-    let a = c.args in
-    (
+    let a = c.args in (
       hit_nowhere a.ids.now a.pos.now a.n (big_endian 32 a.id.now) a.found.now
           (λ i h e.
           c.surely_lacks.ensures c.if-surely_lacks.true i h (word_same a.ids.now a.words.now a.pos.now a.id.now a.n (small-ids) (small-id) c.requires.0.worded i h e ∙ sym c.word-first.ensures)),

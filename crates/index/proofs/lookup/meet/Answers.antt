@@ -33,8 +33,7 @@ pub hit-hint-requires : goal.hit-hint-requires
 hit-hint-requires c =
     let l = c.loop-j in
     let at = l.j * 32 in
-    let g = l.invariant.0 in
-    (
+    let g = l.invariant.0 in (
       c.requires.0,
       rw (part-from c.args.list.now at, length-drop at c.args.list.now) (omega arith),
       omega arith,
@@ -56,8 +55,7 @@ loop-j-preserved c =
     let l = c.loop-j in
     let t = c.hit-hint in
     let e = c.next_inside-j-in-loop-j.ensures in
-    let h : Hit a.ids.now a.pos.now a.n (number_of a.list.now l.j) l.found t.new.found = rw (part-from a.list.now (l.j * 32)) at t.ensures.0 in
-    (
+    let h : Hit a.ids.now a.pos.now a.n (number_of a.list.now l.j) l.found t.new.found = rw (part-from a.list.now (l.j * 32)) at t.ensures.0 in (
       t.auto.found ∙ l.invariant.0,
       e.1,
       past t.new.found (l.j + 1) c.next_inside-j-in-loop-j.result e.0 e.2 (met_next a.list.now l.j a.ids.now a.words.now a.pos.now l.found _ a.n c.requires.0 l.invariant.2 h),

@@ -9,7 +9,7 @@ use Rattle.index.proofs.lookup.near.Goals as goal
 
 pub returns : goal.returns
 returns c =
-    λ e. 
+    λ e.
     let a = c.args in
     let rises = c.requires.1 in
     let above : a.first < get_or a.words.now (a.hint + 1) 0 = ltb-true _ _ e in

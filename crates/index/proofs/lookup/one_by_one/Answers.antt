@@ -1,10 +1,10 @@
 -- `index::lookup::one_by_one` meets its contract. The invariant: the first i are written.
-use Prim.Native.Nat.{ℕ, ◌-◌, ◌*◌}
+use Prim.Native.Nat.{ℕ, ◌*◌}
 use mathlib.Core.Path.{◌≡◌, refl, sym, ◌∙◌}
 use mathlib.Core.Bool.{true, false, cond}
 use native.Mathlib.Omega.{arith}
 use lib.Dec.{ltb}
-use lib.ListN.{length, set, length-set, length-drop}
+use lib.ListN.{length, length-set, length-drop}
 use borrow.Author.Tests.{lt-ltb, le-ltb}
 use Rattle.reader.proofs.Listing.{part-from}
 use Rattle.index.specs.Lookup.{listed}
@@ -27,12 +27,12 @@ loop-i-preserved c =
     let f : ℕ → ℕ = λ k. cond (listed a.list.now a.count a.ids.now k) 1 0 in
     let t = told in
     elim c.if-k-count.branch [
-      then-k-count w ↦
-        let y : listed a.list.now a.count a.ids.now l.i ≡ true = sym t ∙ lt-ltb _ _ w.if-k-count.true in
-        rw (w.found-is, w.next-is) (length-set l.found l.i 1 ∙ g, omega arith, omega arith, built f l.found l.i 1 (omega arith) (rw y refl) l.invariant.3)
+      | then-k-count w ↦
+          let y : listed a.list.now a.count a.ids.now l.i ≡ true = sym t ∙ lt-ltb _ _ w.if-k-count.true in
+          rw (w.found-is, w.next-is) (length-set l.found l.i 1 ∙ g, omega arith, omega arith, built f l.found l.i 1 (omega arith) (rw y refl) l.invariant.3)
       | else-k-count w ↦
-        let y : listed a.list.now a.count a.ids.now l.i ≡ false = sym t ∙ le-ltb c.find-k.result a.count (omega (arith, w.if-k-count.false)) in
-        rw (w.found-is, w.next-is) (length-set l.found l.i 0 ∙ g, omega arith, l.invariant.2, built f l.found l.i 0 (omega arith) (rw y refl) l.invariant.3)
+          let y : listed a.list.now a.count a.ids.now l.i ≡ false = sym t ∙ le-ltb c.find-k.result a.count (omega (arith, w.if-k-count.false)) in
+          rw (w.found-is, w.next-is) (length-set l.found l.i 0 ∙ g, omega arith, l.invariant.2, built f l.found l.i 0 (omega arith) (rw y refl) l.invariant.3)
     ]
 
 pub returns : goal.returns

@@ -36,8 +36,7 @@ place_below-requires c =
     let wide : c.args.n ≤ length c.args.words.now = x.wide in
     let l = c.loop-lo in
     let mid = l.lo + (l.hi - l.lo) / 2 in
-    let h : mid < c.args.n = omega arith in
-    (
+    let h : mid < c.args.n = omega arith in (
       omega arith,
       omega arith,
       index-points c.args.list.now c.args.words.now c.args.pos.now c.args.n c.requires.0 mid h,

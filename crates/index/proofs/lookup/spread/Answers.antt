@@ -1,7 +1,6 @@
 -- `index::lookup::spread` meets its contract. The invariant: all is noted of the ids at the first k places of the index.
 use Prim.Native.Nat.{ℕ, ◌-◌, ◌*◌, ◌/◌, ◌≤◌, ◌<◌}
 use mathlib.Core.Path.{◌≡◌, refl, sym, ◌∙◌}
-use mathlib.Core.Bool.{true, false}
 use native.Mathlib.Omega.{arith}
 use lib.ListN.{get_or, set, length-set}
 use borrow.Author.Tests.{ltb-true, ltb-false}
@@ -49,28 +48,28 @@ loop-k-preserved c =
     let told = c.key_below.ensures in
     let g = l.invariant.0 in
     elim c.if-not-key_below.branch [
-      then-not-key_below w ↦
-        let least : key_at a.ids.now a.pos.now l.k ≤ key_at a.ids.now a.pos.now (l.k - 1) = ltb-false _ _ (sym told ∙ w.if-not-key_below.true) in
-        let e : c.if-not-key_below.found ≡ set l.found (whose) (get_or l.found (whose-before) 0) = rw (← place, ← place-before) w.found-is in
-        rw e (
-          length-set l.found (whose) (get_or l.found (whose-before) 0) ∙ l.invariant.0,
-          omega arith,
-          (λ list count m.
-              met-equal list count a.ids.now a.words.now a.pos.now l.found a.n c.requires.0 l.k l.invariant.1 (inside) (l.invariant.2 list count m)
-              (whose) (whose-before) (omega arith) (its) (its-before) (few-before) least),
-        )
+      | then-not-key_below w ↦
+          let least : key_at a.ids.now a.pos.now l.k ≤ key_at a.ids.now a.pos.now (l.k - 1) = ltb-false _ _ (sym told ∙ w.if-not-key_below.true) in
+          let e : c.if-not-key_below.found ≡ set l.found (whose) (get_or l.found (whose-before) 0) = rw (← place, ← place-before) w.found-is in
+          rw e (
+            length-set l.found (whose) (get_or l.found (whose-before) 0) ∙ l.invariant.0,
+            omega arith,
+            (λ list count m.
+                met-equal list count a.ids.now a.words.now a.pos.now l.found a.n c.requires.0 l.k l.invariant.1 (inside) (l.invariant.2 list count m)
+                (whose) (whose-before) (omega arith) (its) (its-before) (few-before) least),
+          )
       | else-not-key_below w ↦
-        let above : key_at a.ids.now a.pos.now (l.k - 1) < key_at a.ids.now a.pos.now l.k = ltb-true _ _ (sym told ∙ w.if-not-key_below.false) in
-        rw w.found-is (
-          l.invariant.0,
-          omega arith,
-          (λ list count m. met-above list count a.ids.now a.words.now a.pos.now l.found a.n c.requires.0 l.k l.invariant.1 (inside) (l.invariant.2 list count m) above),
-        )
+          let above : key_at a.ids.now a.pos.now (l.k - 1) < key_at a.ids.now a.pos.now l.k = ltb-true _ _ (sym told ∙ w.if-not-key_below.false) in
+          rw w.found-is (
+            l.invariant.0,
+            omega arith,
+            (λ list count m. met-above list count a.ids.now a.words.now a.pos.now l.found a.n c.requires.0 l.k l.invariant.1 (inside) (l.invariant.2 list count m) above),
+          )
     ]
 
 pub returns : goal.returns
 returns c =
-    λ list count m. 
+    λ list count m.
     let k : ℕ = c.loop-k.k in
     let a = c.args in
     let l = c.loop-k in

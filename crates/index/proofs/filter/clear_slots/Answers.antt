@@ -1,5 +1,4 @@
 -- `index::filter::clear_slots` meets its contract. The invariant: what stands before is kept.
-use Prim.Native.Nat.{◌-◌}
 use mathlib.Core.Path.{refl, ◌∙◌}
 use native.Mathlib.Omega.{arith}
 use lib.ListN.{length-set}

@@ -1,5 +1,5 @@
 -- `index::filter::make_filter` meets its contract. The invariant: the first k words are noted, and what stands before the filter is kept.
-use Prim.Native.Nat.{◌+◌, ◌-◌, ◌<◌}
+use Prim.Native.Nat.{◌+◌, ◌<◌}
 use mathlib.Core.Path.{refl, ◌∙◌}
 use native.Mathlib.Omega.{arith}
 use lib.ListN.{length, get_or, length-set}

@@ -1,5 +1,5 @@
 -- `index::filter::next_inside` meets its contract. The invariant: the words up to number i lie outside.
-use Prim.Native.Nat.{◌-◌, ◌*◌}
+use Prim.Native.Nat.{◌*◌}
 use native.Mathlib.Omega.{arith}
 use lib.ListN.{drop}
 use Rattle.message.specs.Bound.{big_endian}

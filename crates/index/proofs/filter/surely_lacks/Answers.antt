@@ -11,13 +11,13 @@ use Rattle.index.proofs.filter.surely_lacks.Goals as goal
 
 pub returns-then-word-words : goal.returns-then-word-words
 returns-then-word-words c =
-    λ e k h q. 
+    λ e k h q.
     let r = c.requires.2 0 k (omega arith) h in
     omega (arith, c.if-word-words.true)
 
 pub returns-then-words-n : goal.returns-then-words-n
 returns-then-words-n c =
-    λ e k h q. 
+    λ e k h q.
     let r = c.requires.2 k (c.args.n - 1) (omega arith) (omega arith) in
     omega (arith, c.if-words-n.true)
 
@@ -39,7 +39,7 @@ bounds-found-at c =
 
 pub returns-then-filtered : goal.returns-then-filtered
 returns-then-filtered c =
-    λ e k h q. 
+    λ e k h q.
     let filter : Filtered c.args.words.now c.args.n c.args.found.now c.args.at = c.requires.3 c.if-filtered.true in
     let at : ℕ = c.args.at + c.slot-s.result in
     let a = c.args in
@@ -49,4 +49,4 @@ returns-then-filtered c =
     clash t (rw v refl)
 
 pub returns : goal.returns
-returns c = clash e refl
+returns c = λ e. clash e refl

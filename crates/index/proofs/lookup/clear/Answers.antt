@@ -1,5 +1,4 @@
 -- `index::lookup::clear` meets its contract. The invariant: the first i are 0.
-use Prim.Native.Nat.{◌-◌}
 use mathlib.Core.Path.{◌≡◌, refl, ◌∙◌}
 use native.Mathlib.Omega.{arith}
 use lib.ListN.{length, length-set}

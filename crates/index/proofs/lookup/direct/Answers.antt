@@ -1,5 +1,5 @@
 -- `index::lookup::direct` meets its contract. The invariant: it is written where the buckets below b begin, and the words before `k` lie in buckets below b.
-use Prim.Native.Nat.{◌+◌, ◌-◌}
+use Prim.Native.Nat.{◌+◌}
 use mathlib.Core.Path.{◌≡◌, refl, ◌∙◌}
 use native.Mathlib.Omega.{arith}
 use lib.ListN.{length, get_or, length-set}
@@ -23,8 +23,7 @@ loop-b-preserved c =
     head_at c.args.list.now c.args.words.now c.args.pos.now c.args.n small c.requires.4 c.requires.5 (get_or c.args.words.now 0 0) c.shift_for-shift.result c.loop-b.b c.loop-b.k c.head-k.result e.0 c.loop-b.invariant.3 e.1 e.2 in
     let l = c.loop-b in
     let h = begins in
-    let g = long in
-    (
+    let g = long in (
       omega arith,
       h.within,
       length-set l.pos (c.args.n + l.b) c.head-k.result ∙ l.invariant.2,

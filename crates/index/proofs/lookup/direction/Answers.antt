@@ -1,14 +1,13 @@
 -- `index::lookup::direction` meets its contract. The invariant: no more rises than ids are counted.
-use Prim.Native.Nat.{◌+◌, ◌-◌, ◌≤◌}
-use mathlib.Core.Path.{◌≡◌}
-use mathlib.Core.Logic.{⊎_elim}
+use Prim.Native.Nat.{◌+◌, ◌≤◌}
 use native.Mathlib.Omega.{arith}
 use Rattle.index.proofs.lookup.direction.Goals as goal
+use Rattle.index.proofs.lookup.direction.Goals.{then-word, else-word}
 
 pub loop-i-preserved : goal.loop-i-preserved
 loop-i-preserved c =
     let l = c.loop-i in
-    let few : c.if-word.rises ≤ l.rises + 1 = ⊎_elim (λ w. let e : c.if-word.rises ≡ l.rises + 1 = w.1 in omega arith) (λ w. let e : c.if-word.rises ≡ l.rises = w.1 in omega arith) c.if-word.branch in
+    let few : c.if-word.rises ≤ l.rises + 1 = elim c.if-word.branch [ then-word w ↦ omega arith | else-word w ↦ omega arith ] in
     (omega arith, omega arith, omega arith)
 
 pub loop-i-init : goal.loop-i-init

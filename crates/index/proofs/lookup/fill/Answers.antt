@@ -1,5 +1,5 @@
 -- `index::lookup::fill` meets its contract. The invariant: the first i places and words are written.
-use Prim.Native.Nat.{◌-◌, ◌*◌}
+use Prim.Native.Nat.{◌*◌}
 use mathlib.Core.Path.{◌≡◌, refl, ◌∙◌}
 use native.Mathlib.Omega.{arith}
 use lib.ListN.{length, drop, length-set}
@@ -7,16 +7,11 @@ use Rattle.message.specs.Bound.{big_endian}
 use Rattle.index.proofs.Finding.{built}
 use Rattle.index.proofs.lookup.fill.Goals as goal
 
-record Ranges (c : tie.At-loop invariant-loop decreases-loop) : Type 0 where
-  wide : length c.loop.words ≡ length c.before.before.before.before.args.words.now
-  long : length c.loop.pos ≡ length c.before.before.before.before.args.pos.now
-
 pub loop-i-preserved : goal.loop-i-preserved
 loop-i-preserved c =
-    let ranges : Ranges c = record { wide = c.loop-i.invariant.0; long = c.loop-i.invariant.1 } in
-    let l = c.loop-i in
-    let g = ranges in
-    (
+    let wide : length c.loop-i.words ≡ length c.args.words.now = c.loop-i.invariant.0 in
+    let long : length c.loop-i.pos ≡ length c.args.pos.now = c.loop-i.invariant.1 in
+    let l = c.loop-i in (
       length-set l.words l.i c.word.result ∙ l.invariant.0,
       length-set l.pos l.i (l.i * 32) ∙ l.invariant.1,
       omega arith,
@@ -34,14 +29,14 @@ loop-i-init c = (refl, refl, omega arith, λ k h. absurd (omega arith), λ k h. 
 
 pub bounds-words-i : goal.bounds-words-i
 bounds-words-i c =
-    let ranges : Ranges c = record { wide = c.loop-i.invariant.0; long = c.loop-i.invariant.1 } in
-    let g = ranges in
+    let wide : length c.loop-i.words ≡ length c.args.words.now = c.loop-i.invariant.0 in
+    let long : length c.loop-i.pos ≡ length c.args.pos.now = c.loop-i.invariant.1 in
     omega arith
 
 pub bounds-pos-i : goal.bounds-pos-i
 bounds-pos-i c =
-    let ranges : Ranges c = record { wide = c.loop-i.invariant.0; long = c.loop-i.invariant.1 } in
-    let g = ranges in
+    let wide : length c.loop-i.words ≡ length c.args.words.now = c.loop-i.invariant.0 in
+    let long : length c.loop-i.pos ≡ length c.args.pos.now = c.loop-i.invariant.1 in
     omega arith
 
 pub shape_of-words : goal.shape_of-words

@@ -1,5 +1,4 @@
 -- `index::lookup::head` meets its contract. The invariant: the words from `k` up to the place lie in buckets below b.
-use Prim.Native.Nat.{◌-◌}
 use native.Mathlib.Omega.{arith}
 use Rattle.index.proofs.Heaps.{by-same}
 use Rattle.index.proofs.lookup.head.Goals as goal

@@ -12,22 +12,6 @@ use Rattle.index.proofs.Finding.{index-points}
 use Rattle.index.proofs.Meeting.{hit_nowhere, hit_at_lem}
 use Rattle.index.proofs.lookup.hit_at.Goals as goal
 
--- the id there is one of the n
-module _ (h : s.args.k < s.args.n) where
-  whose : ℕ
-  whose = (s.pre.0.from s.args.k h).0
-
-  few : whose < s.args.n
-  unfolding whose
-  few = (s.pre.0.from s.args.k h).1
-
-  its : get_or s.args.pos.now s.args.k 0 ≡ whose * 32
-  unfolding whose
-  its = (s.pre.0.from s.args.k h).2
-
-  place : get_or s.args.pos.now s.args.k 0 / 32 ≡ whose
-  place = let e = its in omega arith
-
 pub is_at-requires : goal.is_at-requires
 is_at-requires c =
     let a = c.args in
@@ -40,19 +24,23 @@ is_at-requires c =
 pub bounds-found-p : goal.bounds-found-p
 bounds-found-p c =
     let h : c.args.k < c.args.n = omega arith in
-    let p = place c h in
-    let f = few c h in
+    let whose : ℕ = (c.requires.0.from c.args.k h).0 in
+    let few : whose < c.args.n = (c.requires.0.from c.args.k h).1 in
+    let its : get_or c.args.pos.now c.args.k 0 ≡ whose * 32 = (c.requires.0.from c.args.k h).2 in
     omega arith
 
 pub returns-then-is_at : goal.returns-then-is_at
 returns-then-is_at c =
     let a = c.args in
     let h : a.k < a.n = omega arith in
-    let f = few c h in
+    let whose : ℕ = (c.requires.0.from c.args.k h).0 in
+    let few : whose < c.args.n = (c.requires.0.from c.args.k h).1 in
+    let its : get_or c.args.pos.now c.args.k 0 ≡ whose * 32 = (c.requires.0.from c.args.k h).2 in
+    let place : get_or c.args.pos.now c.args.k 0 / 32 ≡ whose = omega arith in
     let is : key_at a.ids.now a.pos.now a.k ≡ big_endian 32 a.id.now = eqb-true _ _ (sym c.is_at.ensures ∙ c.if-is_at.true) in
-    rw (place c h) (
-      hit_at_lem a.ids.now a.pos.now a.n (big_endian 32 a.id.now) a.k a.found.now c.requires.4 (whose c h) (omega arith) h (its c h) is,
-      behind-set a.found.now a.found.now a.n (whose c h) 1 f (λ k l. refl),
+    rw place (
+      hit_at_lem a.ids.now a.pos.now a.n (big_endian 32 a.id.now) a.k a.found.now c.requires.4 whose (omega arith) h its is,
+      behind-set a.found.now a.found.now a.n whose 1 few (λ k l. refl),
     )
 
 pub returns-then-n-k : goal.returns-then-n-k

@@ -16,9 +16,8 @@ use Rattle.index.proofs.lookup.meet.Goals as goal
 
 pub loop-j-init : goal.loop-j-init
 loop-j-init c =
-    let start : tie.Start invariant-loop decreases-loop = c in
-    let past : (found : List ℕ) (j r : ℕ) → j ≤ r → ((i : ℕ) → j ≤ i → i < r → Outside (get_or start.args.words.now 0 0) (get_or start.args.words.now (start.args.n - 1) 0) (big_endian 8 (drop (i * 32) start.args.list.now))) → Met start.args.list.now j start.args.ids.now start.args.pos.now found start.args.n 0 → Met start.args.list.now r start.args.ids.now start.args.pos.now found start.args.n 0 = λ found j r h out m. let a = start.args in
-    let x = start.pre.0 in
+    let past : (found : List ℕ) (j r : ℕ) → j ≤ r → ((i : ℕ) → j ≤ i → i < r → Outside (get_or c.args.words.now 0 0) (get_or c.args.words.now (c.args.n - 1) 0) (big_endian 8 (drop (i * 32) c.args.list.now))) → Met c.args.list.now j c.args.ids.now c.args.pos.now found c.args.n 0 → Met c.args.list.now r c.args.ids.now c.args.pos.now found c.args.n 0 = λ found j r h out m. let a = c.args in
+    let x = c.requires.0 in
     let ids : Small a.ids.now = λ k. omega (arith, c.type_inv.ids k) in
     let list : Small a.list.now = λ k. omega (arith, c.type_inv.list k) in
     let e : j + (r - j) ≡ r = omega arith in
@@ -26,17 +25,15 @@ loop-j-init c =
     (met_past a.list.now a.ids.now a.words.now a.pos.now found a.n x (r - j) j
     (λ i b d. outside_lacks a.ids.now a.words.now a.pos.now a.list.now a.n x ids list i (out i b (omega arith)))
     m) in
-    let s = start in
-    let a = s.args in
+    let a = c.args in
     let e = c.next_inside-j.ensures in
-    (refl, e.1, past a.found.now 0 c.next_inside-j.result e.0 e.2 (met-none a.list.now a.ids.now a.pos.now a.found.now a.n s.pre.3), λ k h. refl)
+    (refl, e.1, past a.found.now 0 c.next_inside-j.result e.0 e.2 (met-none a.list.now a.ids.now a.pos.now a.found.now a.n c.requires.3), λ k h. refl)
 
 pub hit-hint-requires : goal.hit-hint-requires
 hit-hint-requires c =
     let l = c.loop-j in
     let at = l.j * 32 in
-    let g = l.invariant.0 in
-    (
+    let g = l.invariant.0 in (
       c.requires.0,
       rw (part-from c.args.list.now at, length-drop at c.args.list.now) (omega arith),
       omega arith,
@@ -45,9 +42,8 @@ hit-hint-requires c =
 
 pub loop-j-preserved : goal.loop-j-preserved
 loop-j-preserved c =
-    let start : tie.Start invariant-loop decreases-loop = c in
-    let past : (found : List ℕ) (j r : ℕ) → j ≤ r → ((i : ℕ) → j ≤ i → i < r → Outside (get_or start.args.words.now 0 0) (get_or start.args.words.now (start.args.n - 1) 0) (big_endian 8 (drop (i * 32) start.args.list.now))) → Met start.args.list.now j start.args.ids.now start.args.pos.now found start.args.n 0 → Met start.args.list.now r start.args.ids.now start.args.pos.now found start.args.n 0 = λ found j r h out m. let a = start.args in
-    let x = start.pre.0 in
+    let past : (found : List ℕ) (j r : ℕ) → j ≤ r → ((i : ℕ) → j ≤ i → i < r → Outside (get_or c.args.words.now 0 0) (get_or c.args.words.now (c.args.n - 1) 0) (big_endian 8 (drop (i * 32) c.args.list.now))) → Met c.args.list.now j c.args.ids.now c.args.pos.now found c.args.n 0 → Met c.args.list.now r c.args.ids.now c.args.pos.now found c.args.n 0 = λ found j r h out m. let a = c.args in
+    let x = c.requires.0 in
     let ids : Small a.ids.now = λ k. omega (arith, c.type_inv.ids k) in
     let list : Small a.list.now = λ k. omega (arith, c.type_inv.list k) in
     let e : j + (r - j) ≡ r = omega arith in
@@ -59,8 +55,7 @@ loop-j-preserved c =
     let l = c.loop-j in
     let t = c.hit-hint in
     let e = c.next_inside-j-in-loop-j.ensures in
-    let h : Hit a.ids.now a.pos.now a.n (number_of a.list.now l.j) l.found t.new.found = rw (part-from a.list.now (l.j * 32)) at t.ensures.0 in
-    (
+    let h : Hit a.ids.now a.pos.now a.n (number_of a.list.now l.j) l.found t.new.found = rw (part-from a.list.now (l.j * 32)) at t.ensures.0 in (
       t.auto.found ∙ l.invariant.0,
       e.1,
       past t.new.found (l.j + 1) c.next_inside-j-in-loop-j.result e.0 e.2 (met_next a.list.now l.j a.ids.now a.words.now a.pos.now l.found _ a.n c.requires.0 l.invariant.2 h),

@@ -9,7 +9,7 @@ use Rattle.index.proofs.lookup.near.Goals as goal
 
 pub returns : goal.returns
 returns c =
-    λ e. 
+    λ e.
     let a = c.args in
     let rises = c.requires.1 in
     let above : a.first < get_or a.words.now (a.hint + 1) 0 = ltb-true _ _ e in
@@ -22,13 +22,13 @@ returns c =
     }
 
 pub returns-then-hint-eq0 : goal.returns-then-hint-eq0
-returns-then-hint-eq0 c = clash e refl
+returns-then-hint-eq0 c = λ e. clash e refl
 
 pub returns-then-n-hint : goal.returns-then-n-hint
-returns-then-n-hint c = clash e refl
+returns-then-n-hint c = λ e. clash e refl
 
 pub returns-then-n-hint-eq1 : goal.returns-then-n-hint-eq1
-returns-then-n-hint-eq1 c = clash e refl
+returns-then-n-hint-eq1 c = λ e. clash e refl
 
 pub returns-then-first-below : goal.returns-then-first-below
-returns-then-first-below c = clash e refl
+returns-then-first-below c = λ e. clash e refl

@@ -1,22 +1,21 @@
 -- `index::lookup::note` meets its contract. The invariant: the first i are set where their id is listed.
-use Prim.Native.Nat.{ℕ, ◌-◌, ◌*◌}
+use Prim.Native.Nat.{ℕ, ◌*◌}
 use mathlib.Core.Path.{◌≡◌, refl, sym, ap, ◌∙◌}
 use mathlib.Core.Bool.{Bool, cond}
-use mathlib.Core.Logic.{⊎_elim}
 use native.Mathlib.Omega.{arith}
-use lib.ListN.{length, set, length-drop, length-set}
+use lib.ListN.{length, length-drop, length-set}
 use Rattle.reader.proofs.Listing.{part-from}
 use Rattle.index.specs.Lookup.{listed}
 use Rattle.index.proofs.Filtering.{filtered_kept}
 use Rattle.index.proofs.Setting.{set-none, set-one, set_other, set-behind, set-within}
 use Rattle.index.proofs.lookup.note.Goals as goal
+use Rattle.index.proofs.lookup.note.Goals.{then-stands, else-stands}
 
 pub stands-requires : goal.stands-requires
 stands-requires c =
     let l = c.loop-i in
     let at = l.i * 32 in
-    let f = c.make_filter-filtered in
-    (
+    let f = c.make_filter-filtered in (
       c.index.ensures,
       rw (part-from c.args.ids.now at, length-drop at c.args.ids.now) (omega arith),
       λ e. filtered_kept _ c.args.count f.new.found l.found c.args.n l.invariant.0 (λ k h. set-behind (listed c.args.list.now c.args.count c.args.ids.now) 0 l.i f.new.found l.found l.invariant.2 k (omega arith)) (f.ensures.0 e),
@@ -31,16 +30,14 @@ loop-i-preserved c =
     let g = wide in
     let t : ℕ → Bool = listed a.list.now a.count a.ids.now in
     let test = sym (told) in
-    ⊎_elim
-    (λ w.
-    let e : c.if-stands.found ≡ set l.found l.i 1 = w.1 in
-    let more = set-one t 0 l.i c.make_filter-filtered.new.found l.found (omega arith) (omega arith) (test ∙ w.0.taken) l.invariant.2 in
-    rw e (length-set l.found l.i 1 ∙ l.invariant.0, omega arith, more))
-    (λ w.
-    let e : c.if-stands.found ≡ l.found = w.1 in
-    let more = set_other t 0 l.i c.make_filter-filtered.new.found l.found (test ∙ w.0.left) l.invariant.2 in
-    rw e (l.invariant.0, omega arith, more))
-    c.if-stands.branch
+    elim c.if-stands.branch [
+      | then-stands w ↦
+          let more = set-one t 0 l.i c.make_filter-filtered.new.found l.found (omega arith) (omega arith) (test ∙ w.if-stands.true) l.invariant.2 in
+          rw w.found-is (length-set l.found l.i 1 ∙ l.invariant.0, omega arith, more)
+      | else-stands w ↦
+          let more = set_other t 0 l.i c.make_filter-filtered.new.found l.found (test ∙ w.if-stands.false) l.invariant.2 in
+          rw w.found-is (l.invariant.0, omega arith, more)
+    ]
 
 pub returns : goal.returns
 returns c =

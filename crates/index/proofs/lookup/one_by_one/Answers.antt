@@ -1,16 +1,16 @@
 -- `index::lookup::one_by_one` meets its contract. The invariant: the first i are written.
-use Prim.Native.Nat.{ℕ, ◌-◌, ◌*◌}
+use Prim.Native.Nat.{ℕ, ◌*◌}
 use mathlib.Core.Path.{◌≡◌, refl, sym, ◌∙◌}
 use mathlib.Core.Bool.{true, false, cond}
-use mathlib.Core.Logic.{⊎_elim}
 use native.Mathlib.Omega.{arith}
 use lib.Dec.{ltb}
-use lib.ListN.{length, set, length-set, length-drop}
+use lib.ListN.{length, length-set, length-drop}
 use borrow.Author.Tests.{lt-ltb, le-ltb}
 use Rattle.reader.proofs.Listing.{part-from}
 use Rattle.index.specs.Lookup.{listed}
 use Rattle.index.proofs.Finding.{built}
 use Rattle.index.proofs.lookup.one_by_one.Goals as goal
+use Rattle.index.proofs.lookup.one_by_one.Goals.{then-k-count, else-k-count}
 
 pub find-k-requires : goal.find-k-requires
 find-k-requires c =
@@ -26,16 +26,14 @@ loop-i-preserved c =
     let g = wide in
     let f : ℕ → ℕ = λ k. cond (listed a.list.now a.count a.ids.now k) 1 0 in
     let t = told in
-    ⊎_elim
-    (λ w.
-    let e : c.if-k-count.found ≡ set l.found l.i 1 = w.1 in
-    let y : listed a.list.now a.count a.ids.now l.i ≡ true = sym t ∙ lt-ltb _ _ w.0.taken in
-    rw (e, w.2) (length-set l.found l.i 1 ∙ g, omega arith, omega arith, built f l.found l.i 1 (omega arith) (rw y refl) l.invariant.3))
-    (λ w.
-    let e : c.if-k-count.found ≡ set l.found l.i 0 = w.1 in
-    let y : listed a.list.now a.count a.ids.now l.i ≡ false = sym t ∙ le-ltb c.find-k.result a.count (omega (arith, w.0.left)) in
-    rw (e, w.2) (length-set l.found l.i 0 ∙ g, omega arith, l.invariant.2, built f l.found l.i 0 (omega arith) (rw y refl) l.invariant.3))
-    c.if-k-count.branch
+    elim c.if-k-count.branch [
+      | then-k-count w ↦
+          let y : listed a.list.now a.count a.ids.now l.i ≡ true = sym t ∙ lt-ltb _ _ w.if-k-count.true in
+          rw (w.found-is, w.next-is) (length-set l.found l.i 1 ∙ g, omega arith, omega arith, built f l.found l.i 1 (omega arith) (rw y refl) l.invariant.3)
+      | else-k-count w ↦
+          let y : listed a.list.now a.count a.ids.now l.i ≡ false = sym t ∙ le-ltb c.find-k.result a.count (omega (arith, w.if-k-count.false)) in
+          rw (w.found-is, w.next-is) (length-set l.found l.i 0 ∙ g, omega arith, l.invariant.2, built f l.found l.i 0 (omega arith) (rw y refl) l.invariant.3)
+    ]
 
 pub returns : goal.returns
 returns c = λ i h. c.loop-i.invariant.3 i (omega arith)

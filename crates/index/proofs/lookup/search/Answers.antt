@@ -10,42 +10,33 @@ use Rattle.index.proofs.Directory.{between_around, sought_one}
 use Rattle.index.proofs.Finding.{index-points, between_ends, go_up, go_down, sought_apart}
 use Rattle.index.proofs.lookup.search.Goals as goal
 
-record Ranges (c : tie.At-loop invariant-loop decreases-loop) : Type 0 where
-  ordered : c.loop.lo ≤ c.loop.hi
-  within : c.loop.hi ≤ c.before.before.before.before.before.before.before.args.n
-  few : c.before.before.before.before.before.before.before.args.n ≤ 1048576
-  long : c.before.before.before.before.before.before.before.args.n + c.before.before.before.before.before.before.before.args.n + 1 < length c.before.before.before.before.before.before.before.args.pos.now
-  wide : c.before.before.before.before.before.before.before.args.n ≤ length c.before.before.before.before.before.before.before.args.words.now
-
 pub returns-then-hi-lo-eq1 : goal.returns-then-hi-lo-eq1
 returns-then-hi-lo-eq1 c =
-    let start : tie.Start invariant-loop decreases-loop = c in
-    let small-list : Small start.args.list.now = λ k. omega (arith, c.type_inv.list k) in
-    let small-id : Small start.args.id.now = λ k. omega (arith, c.type_inv.id k) in
-    let around : Around start.args.words.now start.args.n (big_endian 8 start.args.id.now) c.bucket_of-part.result.lo c.bucket_of-part.result.hi = rw (← start.pre.2) c.bucket_of-part.ensures in
-    let s = start in
-    let a = s.args in
-    sought_one a.list.now a.words.now a.pos.now a.id.now a.n (small-list) (small-id) s.pre.0.worded c.bucket_of-part.result.lo c.bucket_of-part.result.hi c.if-hi-lo-eq1.true (around)
+    let small-list : Small c.args.list.now = λ k. omega (arith, c.type_inv.list k) in
+    let small-id : Small c.args.id.now = λ k. omega (arith, c.type_inv.id k) in
+    let around : Around c.args.words.now c.args.n (big_endian 8 c.args.id.now) c.bucket_of-part.result.lo c.bucket_of-part.result.hi = rw (← c.requires.2) c.bucket_of-part.ensures in
+    let a = c.args in
+    sought_one a.list.now a.words.now a.pos.now a.id.now a.n (small-list) (small-id) c.requires.0.worded c.bucket_of-part.result.lo c.bucket_of-part.result.hi c.if-hi-lo-eq1.true (around)
 
 pub loop-lo-init : goal.loop-lo-init
 loop-lo-init c =
-    let start : tie.Start invariant-loop decreases-loop = c in
-    let small-list : Small start.args.list.now = λ k. omega (arith, c.type_inv.list k) in
-    let small-id : Small start.args.id.now = λ k. omega (arith, c.type_inv.id k) in
-    let around : Around start.args.words.now start.args.n (big_endian 8 start.args.id.now) c.bucket_of-part.result.lo c.bucket_of-part.result.hi = rw (← start.pre.2) c.bucket_of-part.ensures in
-    let s = start in
-    let a = s.args in
-    between_around a.list.now a.words.now a.pos.now a.id.now a.n (small-list) (small-id) s.pre.0.worded c.bucket_of-part.result.lo c.bucket_of-part.result.hi (around)
+    let small-list : Small c.args.list.now = λ k. omega (arith, c.type_inv.list k) in
+    let small-id : Small c.args.id.now = λ k. omega (arith, c.type_inv.id k) in
+    let around : Around c.args.words.now c.args.n (big_endian 8 c.args.id.now) c.bucket_of-part.result.lo c.bucket_of-part.result.hi = rw (← c.requires.2) c.bucket_of-part.ensures in
+    let a = c.args in
+    between_around a.list.now a.words.now a.pos.now a.id.now a.n (small-list) (small-id) c.requires.0.worded c.bucket_of-part.result.lo c.bucket_of-part.result.hi (around)
 
 pub place_below-requires : goal.place_below-requires
 place_below-requires c =
-    let ranges : Ranges c = let x = c.requires.0 in
-    record { ordered = c.loop-lo.invariant.ordered; within = c.loop-lo.invariant.within; few = x.few; long = x.long; wide = x.wide } in
+    let x = c.requires.0 in
+    let ordered : c.loop-lo.lo ≤ c.loop-lo.hi = c.loop-lo.invariant.ordered in
+    let within : c.loop-lo.hi ≤ c.args.n = c.loop-lo.invariant.within in
+    let few : c.args.n ≤ 1048576 = x.few in
+    let long : c.args.n + c.args.n + 1 < length c.args.pos.now = x.long in
+    let wide : c.args.n ≤ length c.args.words.now = x.wide in
     let l = c.loop-lo in
-    let g = ranges in
     let mid = l.lo + (l.hi - l.lo) / 2 in
-    let h : mid < c.args.n = omega arith in
-    (
+    let h : mid < c.args.n = omega arith in (
       omega arith,
       omega arith,
       index-points c.args.list.now c.args.words.now c.args.pos.now c.args.n c.requires.0 mid h,
@@ -56,19 +47,25 @@ place_below-requires c =
 
 pub loop-lo-preserved-then-place_below : goal.loop-lo-preserved-then-place_below
 loop-lo-preserved-then-place_below c =
-    let ranges : Ranges c = let x = c.requires.0 in
-    record { ordered = c.loop-lo.invariant.ordered; within = c.loop-lo.invariant.within; few = x.few; long = x.long; wide = x.wide } in
+    let x = c.requires.0 in
+    let ordered : c.loop-lo.lo ≤ c.loop-lo.hi = c.loop-lo.invariant.ordered in
+    let within : c.loop-lo.hi ≤ c.args.n = c.loop-lo.invariant.within in
+    let few : c.args.n ≤ 1048576 = x.few in
+    let long : c.args.n + c.args.n + 1 < length c.args.pos.now = x.long in
+    let wide : c.args.n ≤ length c.args.words.now = x.wide in
     let l = c.loop-lo in
-    let g = ranges in
     go_up c.args.list.now c.args.pos.now c.args.n (big_endian 32 c.args.id.now) c.requires.0.order l.lo l.hi (l.lo + (l.hi - l.lo) / 2) l.invariant (omega arith) (omega arith)
     (told_below _ _ _ c.place_below.ensures c.if-place_below.true)
 
 pub loop-lo-preserved : goal.loop-lo-preserved
 loop-lo-preserved c =
-    let ranges : Ranges c = let x = c.requires.0 in
-    record { ordered = c.loop-lo.invariant.ordered; within = c.loop-lo.invariant.within; few = x.few; long = x.long; wide = x.wide } in
+    let x = c.requires.0 in
+    let ordered : c.loop-lo.lo ≤ c.loop-lo.hi = c.loop-lo.invariant.ordered in
+    let within : c.loop-lo.hi ≤ c.args.n = c.loop-lo.invariant.within in
+    let few : c.args.n ≤ 1048576 = x.few in
+    let long : c.args.n + c.args.n + 1 < length c.args.pos.now = x.long in
+    let wide : c.args.n ≤ length c.args.words.now = x.wide in
     let l = c.loop-lo in
-    let g = ranges in
     go_down c.args.list.now c.args.pos.now c.args.n (big_endian 32 c.args.id.now) c.requires.0.order l.lo l.hi (l.lo + (l.hi - l.lo) / 2) l.invariant (omega arith) (omega arith)
     (told-above _ _ _ c.place_below.ensures c.if-place_below.false)
 
@@ -89,35 +86,50 @@ overflow_sub-hi c = c.bucket_of-part.ensures.ordered
 
 pub overflow_sub-mid : goal.overflow_sub-mid
 overflow_sub-mid c =
-    let ranges : Ranges c = let x = c.requires.0 in
-    record { ordered = c.loop-lo.invariant.ordered; within = c.loop-lo.invariant.within; few = x.few; long = x.long; wide = x.wide } in
-    let g = ranges in
+    let x = c.requires.0 in
+    let ordered : c.loop-lo.lo ≤ c.loop-lo.hi = c.loop-lo.invariant.ordered in
+    let within : c.loop-lo.hi ≤ c.args.n = c.loop-lo.invariant.within in
+    let few : c.args.n ≤ 1048576 = x.few in
+    let long : c.args.n + c.args.n + 1 < length c.args.pos.now = x.long in
+    let wide : c.args.n ≤ length c.args.words.now = x.wide in
     omega arith
 
 pub overflow_add-mid : goal.overflow_add-mid
 overflow_add-mid c =
-    let ranges : Ranges c = let x = c.requires.0 in
-    record { ordered = c.loop-lo.invariant.ordered; within = c.loop-lo.invariant.within; few = x.few; long = x.long; wide = x.wide } in
-    let g = ranges in
+    let x = c.requires.0 in
+    let ordered : c.loop-lo.lo ≤ c.loop-lo.hi = c.loop-lo.invariant.ordered in
+    let within : c.loop-lo.hi ≤ c.args.n = c.loop-lo.invariant.within in
+    let few : c.args.n ≤ 1048576 = x.few in
+    let long : c.args.n + c.args.n + 1 < length c.args.pos.now = x.long in
+    let wide : c.args.n ≤ length c.args.words.now = x.wide in
     omega arith
 
 pub overflow_add-lo : goal.overflow_add-lo
 overflow_add-lo c =
-    let ranges : Ranges c = let x = c.requires.0 in
-    record { ordered = c.loop-lo.invariant.ordered; within = c.loop-lo.invariant.within; few = x.few; long = x.long; wide = x.wide } in
-    let g = ranges in
+    let x = c.requires.0 in
+    let ordered : c.loop-lo.lo ≤ c.loop-lo.hi = c.loop-lo.invariant.ordered in
+    let within : c.loop-lo.hi ≤ c.args.n = c.loop-lo.invariant.within in
+    let few : c.args.n ≤ 1048576 = x.few in
+    let long : c.args.n + c.args.n + 1 < length c.args.pos.now = x.long in
+    let wide : c.args.n ≤ length c.args.words.now = x.wide in
     omega arith
 
 pub loop-lo-smaller-then-place_below : goal.loop-lo-smaller-then-place_below
 loop-lo-smaller-then-place_below c =
-    let ranges : Ranges c = let x = c.requires.0 in
-    record { ordered = c.loop-lo.invariant.ordered; within = c.loop-lo.invariant.within; few = x.few; long = x.long; wide = x.wide } in
-    let g = ranges in
+    let x = c.requires.0 in
+    let ordered : c.loop-lo.lo ≤ c.loop-lo.hi = c.loop-lo.invariant.ordered in
+    let within : c.loop-lo.hi ≤ c.args.n = c.loop-lo.invariant.within in
+    let few : c.args.n ≤ 1048576 = x.few in
+    let long : c.args.n + c.args.n + 1 < length c.args.pos.now = x.long in
+    let wide : c.args.n ≤ length c.args.words.now = x.wide in
     omega arith
 
 pub loop-lo-smaller : goal.loop-lo-smaller
 loop-lo-smaller c =
-    let ranges : Ranges c = let x = c.requires.0 in
-    record { ordered = c.loop-lo.invariant.ordered; within = c.loop-lo.invariant.within; few = x.few; long = x.long; wide = x.wide } in
-    let g = ranges in
+    let x = c.requires.0 in
+    let ordered : c.loop-lo.lo ≤ c.loop-lo.hi = c.loop-lo.invariant.ordered in
+    let within : c.loop-lo.hi ≤ c.args.n = c.loop-lo.invariant.within in
+    let few : c.args.n ≤ 1048576 = x.few in
+    let long : c.args.n + c.args.n + 1 < length c.args.pos.now = x.long in
+    let wide : c.args.n ≤ length c.args.words.now = x.wide in
     omega arith

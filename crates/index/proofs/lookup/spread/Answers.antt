@@ -1,15 +1,14 @@
 -- `index::lookup::spread` meets its contract. The invariant: all is noted of the ids at the first k places of the index.
 use Prim.Native.Nat.{ℕ, ◌-◌, ◌*◌, ◌/◌, ◌≤◌, ◌<◌}
 use mathlib.Core.Path.{◌≡◌, refl, sym, ◌∙◌}
-use mathlib.Core.Bool.{true, false}
-use mathlib.Core.Logic.{⊎_elim}
 use native.Mathlib.Omega.{arith}
 use lib.ListN.{get_or, set, length-set}
-use borrow.Author.Tests.{ltb-true, ltb-false, not-true, not-false}
+use borrow.Author.Tests.{ltb-true, ltb-false}
 use Rattle.idlist.specs.Positions.{key_at}
 use Rattle.index.proofs.Finding.{index-points}
 use Rattle.index.proofs.Meeting.{met-first, met_all, met-above, met-equal}
 use Rattle.index.proofs.lookup.spread.Goals as goal
+use Rattle.index.proofs.lookup.spread.Goals.{then-not-key_below, else-not-key_below}
 
 pub loop-k-init : goal.loop-k-init
 loop-k-init c =
@@ -29,55 +28,48 @@ key_below-requires c =
     (omega arith, omega arith, points (k - 1) (omega arith), points k (omega arith), omega arith, omega arith, x.worded (k - 1) (omega arith), x.worded k (omega arith))
 
 pub loop-k-preserved : goal.loop-k-preserved
-unfolding whose whose-before
 loop-k-preserved c =
-    let start : tie.Start invariant-loop decreases-loop = c in
     let k : ℕ = c.loop-k.k in
-    let inside : k < start.args.n = c.loop-k-test.true in
-    let before : k - 1 < start.args.n = let h = inside in
+    let inside : k < c.args.n = c.loop-k-test.true in
+    let before : k - 1 < c.args.n = let h = inside in
     omega arith in
-    let whose : ℕ = (start.pre.0.from k inside).0 in
-    let whose-before : ℕ = (start.pre.0.from (k - 1) before).0 in
-    let few : whose < start.args.n = (start.pre.0.from k inside).1 in
-    let few-before : whose-before < start.args.n = (start.pre.0.from (k - 1) before).1 in
-    let its : get_or start.args.pos.now k 0 ≡ whose * 32 = (start.pre.0.from k inside).2 in
-    let its-before : get_or start.args.pos.now (k - 1) 0 ≡ whose-before * 32 = (start.pre.0.from (k - 1) before).2 in
-    let place : get_or start.args.pos.now k 0 / 32 ≡ whose = let e = its in
+    let whose : ℕ = (c.requires.0.from k inside).0 in
+    let whose-before : ℕ = (c.requires.0.from (k - 1) before).0 in
+    let few : whose < c.args.n = (c.requires.0.from k inside).1 in
+    let few-before : whose-before < c.args.n = (c.requires.0.from (k - 1) before).1 in
+    let its : get_or c.args.pos.now k 0 ≡ whose * 32 = (c.requires.0.from k inside).2 in
+    let its-before : get_or c.args.pos.now (k - 1) 0 ≡ whose-before * 32 = (c.requires.0.from (k - 1) before).2 in
+    let place : get_or c.args.pos.now k 0 / 32 ≡ whose = let e = its in
     omega arith in
-    let place-before : get_or start.args.pos.now (k - 1) 0 / 32 ≡ whose-before = let e = its-before in
+    let place-before : get_or c.args.pos.now (k - 1) 0 / 32 ≡ whose-before = let e = its-before in
     omega arith in
-    let s = start in
-    let a = s.args in
+    let a = c.args in
     let l = c.loop-k in
     let told = c.key_below.ensures in
-    ⊎_elim
-    (λ w.
-    let no : c.key_below.result ≡ false = not-true c.key_below.result w.0.taken in
-    let least : key_at a.ids.now a.pos.now l.k ≤ key_at a.ids.now a.pos.now (l.k - 1) = ltb-false _ _ (sym told ∙ no) in
-    let e : c.if-not-key_below.found ≡ set l.found (whose) (get_or l.found (whose-before) 0) = rw (← place, ← place-before) w.4 in
-    let f = few in
     let g = l.invariant.0 in
-    rw e (
-      length-set l.found (whose) (get_or l.found (whose-before) 0) ∙ l.invariant.0,
-      omega arith,
-      (λ list count m.
-          met-equal list count a.ids.now a.words.now a.pos.now l.found a.n s.pre.0 l.k l.invariant.1 (inside) (l.invariant.2 list count m)
-          (whose) (whose-before) (omega arith) (its) (its-before) (few-before) least),
-    ))
-    (λ w.
-    let yes : c.key_below.result ≡ true = not-false c.key_below.result w.0.left in
-    let above : key_at a.ids.now a.pos.now (l.k - 1) < key_at a.ids.now a.pos.now l.k = ltb-true _ _ (sym told ∙ yes) in
-    let e : c.if-not-key_below.found ≡ l.found = w.1 in
-    rw e (
-      l.invariant.0,
-      omega arith,
-      (λ list count m. met-above list count a.ids.now a.words.now a.pos.now l.found a.n s.pre.0 l.k l.invariant.1 (inside) (l.invariant.2 list count m) above),
-    ))
-    c.if-not-key_below.branch
+    elim c.if-not-key_below.branch [
+      | then-not-key_below w ↦
+          let least : key_at a.ids.now a.pos.now l.k ≤ key_at a.ids.now a.pos.now (l.k - 1) = ltb-false _ _ (sym told ∙ w.if-not-key_below.true) in
+          let e : c.if-not-key_below.found ≡ set l.found (whose) (get_or l.found (whose-before) 0) = rw (← place, ← place-before) w.found-is in
+          rw e (
+            length-set l.found (whose) (get_or l.found (whose-before) 0) ∙ l.invariant.0,
+            omega arith,
+            (λ list count m.
+                met-equal list count a.ids.now a.words.now a.pos.now l.found a.n c.requires.0 l.k l.invariant.1 (inside) (l.invariant.2 list count m)
+                (whose) (whose-before) (omega arith) (its) (its-before) (few-before) least),
+          )
+      | else-not-key_below w ↦
+          let above : key_at a.ids.now a.pos.now (l.k - 1) < key_at a.ids.now a.pos.now l.k = ltb-true _ _ (sym told ∙ w.if-not-key_below.false) in
+          rw w.found-is (
+            l.invariant.0,
+            omega arith,
+            (λ list count m. met-above list count a.ids.now a.words.now a.pos.now l.found a.n c.requires.0 l.k l.invariant.1 (inside) (l.invariant.2 list count m) above),
+          )
+    ]
 
 pub returns : goal.returns
 returns c =
-    λ list count m. 
+    λ list count m.
     let k : ℕ = c.loop-k.k in
     let a = c.args in
     let l = c.loop-k in
@@ -114,17 +106,15 @@ bounds-pos-k-then-not-key_below c =
     omega arith
 
 pub bounds-found-q : goal.bounds-found-q
-unfolding whose-before
 bounds-found-q c =
-    let start : tie.Start invariant-loop decreases-loop = c in
     let k : ℕ = c.loop-k.k in
-    let inside : k < start.args.n = c.loop-k-test.true in
-    let before : k - 1 < start.args.n = let h = inside in
+    let inside : k < c.args.n = c.loop-k-test.true in
+    let before : k - 1 < c.args.n = let h = inside in
     omega arith in
-    let whose-before : ℕ = (start.pre.0.from (k - 1) before).0 in
-    let few-before : whose-before < start.args.n = (start.pre.0.from (k - 1) before).1 in
-    let its-before : get_or start.args.pos.now (k - 1) 0 ≡ whose-before * 32 = (start.pre.0.from (k - 1) before).2 in
-    let place-before : get_or start.args.pos.now (k - 1) 0 / 32 ≡ whose-before = let e = its-before in
+    let whose-before : ℕ = (c.requires.0.from (k - 1) before).0 in
+    let few-before : whose-before < c.args.n = (c.requires.0.from (k - 1) before).1 in
+    let its-before : get_or c.args.pos.now (k - 1) 0 ≡ whose-before * 32 = (c.requires.0.from (k - 1) before).2 in
+    let place-before : get_or c.args.pos.now (k - 1) 0 / 32 ≡ whose-before = let e = its-before in
     omega arith in
     let p = place-before in
     let f = few-before in
@@ -132,15 +122,13 @@ bounds-found-q c =
     omega arith
 
 pub bounds-found-p : goal.bounds-found-p
-unfolding whose
 bounds-found-p c =
-    let start : tie.Start invariant-loop decreases-loop = c in
     let k : ℕ = c.loop-k.k in
-    let inside : k < start.args.n = c.loop-k-test.true in
-    let whose : ℕ = (start.pre.0.from k inside).0 in
-    let few : whose < start.args.n = (start.pre.0.from k inside).1 in
-    let its : get_or start.args.pos.now k 0 ≡ whose * 32 = (start.pre.0.from k inside).2 in
-    let place : get_or start.args.pos.now k 0 / 32 ≡ whose = let e = its in
+    let inside : k < c.args.n = c.loop-k-test.true in
+    let whose : ℕ = (c.requires.0.from k inside).0 in
+    let few : whose < c.args.n = (c.requires.0.from k inside).1 in
+    let its : get_or c.args.pos.now k 0 ≡ whose * 32 = (c.requires.0.from k inside).2 in
+    let place : get_or c.args.pos.now k 0 / 32 ≡ whose = let e = its in
     omega arith in
     let p = place in
     let f = few in

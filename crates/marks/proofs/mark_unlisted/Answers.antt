@@ -12,23 +12,24 @@ use Rattle.index.proofs.Setting.{set-none, set-block, set_all}
 use Rattle.marks.proofs.Marking.{missing, found_tells}
 use Rattle.marks.proofs.mark_unlisted.Goals as goal
 
-record Ranges (c : tie.At-loop invariant-loop decreases-loop) : Type 0 where
-  low : c.before.before.before.before.before.before.before.args.lo ≤ c.loop.j
-  high : c.loop.j ≤ c.before.before.before.before.before.before.before.args.lo + (c.before.before.before.before.before.before.before.args.hi - c.before.before.before.before.before.before.before.args.lo)
-  marks : length c.loop.marks ≡ length c.before.before.before.before.before.before.before.args.marks.now
-  words : length c.loop.words ≡ length c.before.before.before.before.before.before.before.args.words.now
-  pos : length c.loop.pos ≡ length c.before.before.before.before.before.before.before.args.pos.now
-  found : length c.loop.found ≡ length c.before.before.before.before.before.before.before.args.found.now
-  some : 0 < length c.before.before.before.before.before.before.before.args.words.now
-  beside : length c.before.before.before.before.before.before.before.args.words.now + length c.before.before.before.before.before.before.before.args.words.now + 1 < length c.before.before.before.before.before.before.before.args.pos.now
-  few : length c.before.before.before.before.before.before.before.args.words.now ≤ 1048576
-  noted : 0 < length c.before.before.before.before.before.before.before.args.found.now
+-- how far the loop is, and how long the slices are
+record Ranges (lo hi j m m₀ w w₀ p p₀ f f₀ : ℕ) : Type 0 where
+  low : lo ≤ j
+  high : j ≤ lo + (hi - lo)
+  marks : m ≡ m₀
+  words : w ≡ w₀
+  pos : p ≡ p₀
+  found : f ≡ f₀
+  some : 0 < w₀
+  beside : w₀ + w₀ + 1 < p₀
+  few : w₀ ≤ 1048576
+  noted : 0 < f₀
 
 -- the ids that are looked up together
-record Part (c : tie.After-block invariant-loop decreases-loop) : Type 0 where
-  left : c.block.result ≤ c.before.before.before.before.before.before.before.before.before.args.hi - c.before.before.loop.j
-  room : c.block.result ≤ length c.before.before.loop.found
-  some : 0 < c.block.result
+record Part (hi j n f : ℕ) : Type 0 where
+  left : n ≤ hi - j
+  room : n ≤ f
+  some : 0 < n
 
 pub loop-j-init : goal.loop-j-init
 loop-j-init c =
@@ -37,7 +38,8 @@ loop-j-init c =
 
 pub overflow_mul-at : goal.overflow_mul-at
 overflow_mul-at c =
-    let ranges : Ranges c = let v = c.loop-j.invariant in
+    let ranges : Ranges c.args.lo c.args.hi c.loop-j.j (length c.loop-j.marks) (length c.args.marks.now) (length c.loop-j.words) (length c.args.words.now) (length c.loop-j.pos) (length c.args.pos.now) (length c.loop-j.found) (length c.args.found.now) =
+    let v = c.loop-j.invariant in
     let r = c.requires.3 in
     record { low = v.0; high = v.1; marks = v.2; words = v.4; pos = v.5; found = v.6; some = r.some; beside = r.beside; few = r.few; noted = r.noted } in
     let g = ranges in
@@ -45,7 +47,8 @@ overflow_mul-at c =
 
 pub slice_bounds-contains_each-count : goal.slice_bounds-contains_each-count
 slice_bounds-contains_each-count c =
-    let ranges : Ranges c = let v = c.loop-j.invariant in
+    let ranges : Ranges c.args.lo c.args.hi c.loop-j.j (length c.loop-j.marks) (length c.args.marks.now) (length c.loop-j.words) (length c.args.words.now) (length c.loop-j.pos) (length c.args.pos.now) (length c.loop-j.found) (length c.args.found.now) =
+    let v = c.loop-j.invariant in
     let r = c.requires.3 in
     record { low = v.0; high = v.1; marks = v.2; words = v.4; pos = v.5; found = v.6; some = r.some; beside = r.beside; few = r.few; noted = r.noted } in
     let g = ranges in
@@ -53,7 +56,8 @@ slice_bounds-contains_each-count c =
 
 pub slice_bounds-contains_each-start : goal.slice_bounds-contains_each-start
 slice_bounds-contains_each-start c =
-    let ranges : Ranges c = let v = c.loop-j.invariant in
+    let ranges : Ranges c.args.lo c.args.hi c.loop-j.j (length c.loop-j.marks) (length c.args.marks.now) (length c.loop-j.words) (length c.args.words.now) (length c.loop-j.pos) (length c.args.pos.now) (length c.loop-j.found) (length c.args.found.now) =
+    let v = c.loop-j.invariant in
     let r = c.requires.3 in
     record { low = v.0; high = v.1; marks = v.2; words = v.4; pos = v.5; found = v.6; some = r.some; beside = r.beside; few = r.few; noted = r.noted } in
     let g = ranges in
@@ -61,10 +65,12 @@ slice_bounds-contains_each-start c =
 
 pub contains_each-requires : goal.contains_each-requires
 contains_each-requires c =
-    let ranges : Ranges c = let v = c.loop-j.invariant in
+    let ranges : Ranges c.args.lo c.args.hi c.loop-j.j (length c.loop-j.marks) (length c.args.marks.now) (length c.loop-j.words) (length c.args.words.now) (length c.loop-j.pos) (length c.args.pos.now) (length c.loop-j.found) (length c.args.found.now) =
+    let v = c.loop-j.invariant in
     let r = c.requires.3 in
     record { low = v.0; high = v.1; marks = v.2; words = v.4; pos = v.5; found = v.6; some = r.some; beside = r.beside; few = r.few; noted = r.noted } in
-    let part : Part c = let e = c.block-n.ensures in
+    let part : Part c.args.hi c.loop-j.j c.block-n.result (length c.loop-j.found) =
+    let e = c.block-n.ensures in
     let g = ranges in
     record { left = e.0; room = e.1; some = e.2 (omega arith) (omega arith) (omega arith) } in
     let g = ranges in
@@ -74,10 +80,12 @@ contains_each-requires c =
 
 pub mark_missing-requires : goal.mark_missing-requires
 mark_missing-requires c =
-    let ranges : Ranges c = let v = c.loop-j.invariant in
+    let ranges : Ranges c.args.lo c.args.hi c.loop-j.j (length c.loop-j.marks) (length c.args.marks.now) (length c.loop-j.words) (length c.args.words.now) (length c.loop-j.pos) (length c.args.pos.now) (length c.loop-j.found) (length c.args.found.now) =
+    let v = c.loop-j.invariant in
     let r = c.requires.3 in
     record { low = v.0; high = v.1; marks = v.2; words = v.4; pos = v.5; found = v.6; some = r.some; beside = r.beside; few = r.few; noted = r.noted } in
-    let part : Part c = let e = c.block-n.ensures in
+    let part : Part c.args.hi c.loop-j.j c.block-n.result (length c.loop-j.found) =
+    let e = c.block-n.ensures in
     let g = ranges in
     record { left = e.0; room = e.1; some = e.2 (omega arith) (omega arith) (omega arith) } in
     let g = ranges in
@@ -87,10 +95,12 @@ mark_missing-requires c =
 
 pub overflow_add-j : goal.overflow_add-j
 overflow_add-j c =
-    let ranges : Ranges c = let v = c.loop-j.invariant in
+    let ranges : Ranges c.args.lo c.args.hi c.loop-j.j (length c.loop-j.marks) (length c.args.marks.now) (length c.loop-j.words) (length c.args.words.now) (length c.loop-j.pos) (length c.args.pos.now) (length c.loop-j.found) (length c.args.found.now) =
+    let v = c.loop-j.invariant in
     let r = c.requires.3 in
     record { low = v.0; high = v.1; marks = v.2; words = v.4; pos = v.5; found = v.6; some = r.some; beside = r.beside; few = r.few; noted = r.noted } in
-    let part : Part c = let e = c.block-n.ensures in
+    let part : Part c.args.hi c.loop-j.j c.block-n.result (length c.loop-j.found) =
+    let e = c.block-n.ensures in
     let g = ranges in
     record { left = e.0; room = e.1; some = e.2 (omega arith) (omega arith) (omega arith) } in
     let g = ranges in
@@ -99,10 +109,12 @@ overflow_add-j c =
 
 pub loop-j-smaller : goal.loop-j-smaller
 loop-j-smaller c =
-    let ranges : Ranges c = let v = c.loop-j.invariant in
+    let ranges : Ranges c.args.lo c.args.hi c.loop-j.j (length c.loop-j.marks) (length c.args.marks.now) (length c.loop-j.words) (length c.args.words.now) (length c.loop-j.pos) (length c.args.pos.now) (length c.loop-j.found) (length c.args.found.now) =
+    let v = c.loop-j.invariant in
     let r = c.requires.3 in
     record { low = v.0; high = v.1; marks = v.2; words = v.4; pos = v.5; found = v.6; some = r.some; beside = r.beside; few = r.few; noted = r.noted } in
-    let part : Part c = let e = c.block-n.ensures in
+    let part : Part c.args.hi c.loop-j.j c.block-n.result (length c.loop-j.found) =
+    let e = c.block-n.ensures in
     let g = ranges in
     record { left = e.0; room = e.1; some = e.2 (omega arith) (omega arith) (omega arith) } in
     let g = ranges in
@@ -111,10 +123,12 @@ loop-j-smaller c =
 
 pub loop-j-preserved : goal.loop-j-preserved
 loop-j-preserved c =
-    let ranges : Ranges c = let v = c.loop-j.invariant in
+    let ranges : Ranges c.args.lo c.args.hi c.loop-j.j (length c.loop-j.marks) (length c.args.marks.now) (length c.loop-j.words) (length c.args.words.now) (length c.loop-j.pos) (length c.args.pos.now) (length c.loop-j.found) (length c.args.found.now) =
+    let v = c.loop-j.invariant in
     let r = c.requires.3 in
     record { low = v.0; high = v.1; marks = v.2; words = v.4; pos = v.5; found = v.6; some = r.some; beside = r.beside; few = r.few; noted = r.noted } in
-    let part : Part c = let e = c.block-n.ensures in
+    let part : Part c.args.hi c.loop-j.j c.block-n.result (length c.loop-j.found) =
+    let e = c.block-n.ensures in
     let g = ranges in
     record { left = e.0; room = e.1; some = e.2 (omega arith) (omega arith) (omega arith) } in
     let a = c.args in

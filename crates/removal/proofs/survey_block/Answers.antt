@@ -10,8 +10,7 @@ use Rattle.removal.proofs.survey_block.Goals as goal
 
 pub returns : goal.returns
 returns c =
-    let s : tie.Start = c in
-    let left : (c.count_bits.result ≤ s.args.count) × (s.args.count - c.count_bits.result ≡ length (without (ids_in s.args.m s.args.ids.now) (ids_in s.args.count s.args.list.now))) = window_left _ (ids_in s.args.m s.args.ids.now) s.args.count s.args.list.now c.mark_all-found.ensures.marks_after c.count_bits.result c.count_bits.ensures in
+    let left : (c.count_bits.result ≤ c.args.count) × (c.args.count - c.count_bits.result ≡ length (without (ids_in c.args.m c.args.ids.now) (ids_in c.args.count c.args.list.now))) = window_left _ (ids_in c.args.m c.args.ids.now) c.args.count c.args.list.now c.mark_all-found.ensures.marks_after c.count_bits.result c.count_bits.ensures in
     let w = (left).1 in
     record { found_value = (c.mark_all-found.ensures.value, w, omega arith); marks_after = c.mark_all-found.ensures.marks_after }
 
@@ -20,6 +19,5 @@ count_bits-requires c = omega (arith, c.requires.2, c.mark_all-found.auto.marks)
 
 pub overflow_sub-left : goal.overflow_sub-left
 overflow_sub-left c =
-    let s : tie.Start = c in
-    let left : (c.count_bits.result ≤ s.args.count) × (s.args.count - c.count_bits.result ≡ length (without (ids_in s.args.m s.args.ids.now) (ids_in s.args.count s.args.list.now))) = window_left _ (ids_in s.args.m s.args.ids.now) s.args.count s.args.list.now c.mark_all-found.ensures.marks_after c.count_bits.result c.count_bits.ensures in
+    let left : (c.count_bits.result ≤ c.args.count) × (c.args.count - c.count_bits.result ≡ length (without (ids_in c.args.m c.args.ids.now) (ids_in c.args.count c.args.list.now))) = window_left _ (ids_in c.args.m c.args.ids.now) c.args.count c.args.list.now c.mark_all-found.ensures.marks_after c.count_bits.result c.count_bits.ensures in
     (left).0

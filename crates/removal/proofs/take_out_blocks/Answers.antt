@@ -13,11 +13,11 @@ use Rattle.removal.proofs.take_out_blocks.Goals as goal
 pub loop-lo-init : goal.loop-lo-init
 loop-lo-init c =
     let a = c.args in
-    (refl, refl, omega arith, taking-starts (ids_in a.m a.ids.now) a.list.now)
+    (refl, refl, omega arith, taking-starts (ids_in a.m a.ids.now) a.list.now, small_bytes a.list.now (λ k. omega (arith, c.type_inv.list k)))
 
 pub keep_in_block-kept-requires : goal.keep_in_block-kept-requires
 keep_in_block-kept-requires c =
-    let small : Bytes c.args.list.now = small_bytes c.args.list.now (λ k. omega (arith, c.type_inv.list k)) in
+    let small : Bytes c.args.list.now = c.loop-lo.invariant.4 in
     let a = c.args in
     let l = c.loop-lo in
     let n = c.fitting-count in
@@ -26,11 +26,11 @@ keep_in_block-kept-requires c =
     let fits = n.ensures.0 in
     let inside : l.lo * 32 ≤ length a.list.now = omega (arith, l.invariant.2, c.requires.0) in
     (
-      taking-few us a.list.now (small) l.list l.auto l.lo l.invariant.3 inside,
+      taking-few us a.list.now (small) l.list l.kept l.lo l.invariant.3 inside,
       omega (arith, h, c.requires.0),
       c.requires.1,
       n.ensures.1,
-      rw (taking-behind us a.list.now (small) l.list l.auto l.lo l.invariant.3 inside)
+      rw (taking-behind us a.list.now (small) l.list l.kept l.lo l.invariant.3 inside)
           (window_rises a.list.now a.size l.lo n.result (omega arith) c.requires.2),
       omega (arith, l.invariant.0, c.requires.3),
     )
@@ -44,7 +44,7 @@ loop-lo-smaller c =
 
 pub loop-lo-preserved : goal.loop-lo-preserved
 loop-lo-preserved c =
-    let small : Bytes c.args.list.now = small_bytes c.args.list.now (λ k. omega (arith, c.type_inv.list k)) in
+    let small : Bytes c.args.list.now = c.loop-lo.invariant.4 in
     let a = c.args in
     let l = c.loop-lo in
     let n = c.fitting-count in
@@ -54,8 +54,9 @@ loop-lo-preserved c =
       k.auto.ends ∙ l.invariant.0,
       k.auto.marks ∙ l.invariant.1,
       omega arith,
-      taking_goes (ids_in a.m a.ids.now) a.list.now (small) l.list l.auto l.lo l.invariant.3 (omega (arith, l.invariant.2, c.requires.0)) n.result
+      taking_goes (ids_in a.m a.ids.now) a.list.now (small) l.list l.kept l.lo l.invariant.3 (omega (arith, l.invariant.2, c.requires.0)) n.result
           (omega (arith, c.requires.0)) k.result _ k.ensures.value k.ensures.list_after k.auto.list,
+      small,
     )
 
 pub returns : goal.returns

@@ -1,7 +1,6 @@
 -- `removal::bits::count_bits` meets its contract. The invariant: the sum and the ones that are left make the whole.
 use Prim.Native.Nat.{◌-◌}
 use mathlib.Core.Path.{◌≡◌, sym, ◌∙◌}
-use mathlib.Core.Logic.{⊎_elim}
 use native.Mathlib.Omega.{arith}
 use lib.ListN.{length, get_or}
 use lib.Seq.{length-take-le, get_or-take}
@@ -10,6 +9,7 @@ use Rattle.removal.specs.Removing.{bits_in}
 use Rattle.removal.proofs.Bitwise.{bits_in_length}
 use Rattle.removal.proofs.bits.count_bits.Invariants.{counted}
 use Rattle.removal.proofs.bits.count_bits.Goals as goal
+use Rattle.removal.proofs.bits.count_bits.Goals.{then-bit-eq1, else-bit-eq1}
 
 pub loop-k-init : goal.loop-k-init
 loop-k-init c = (omega arith, omega arith, omega arith)
@@ -22,10 +22,10 @@ loop-k-preserved c =
     let m = counted a.count a.marks.now in
     let n = long in
     let read : c.bit.result ≡ get_or m l.k 0 = c.bit.ensures ∙ sym (get_or-take a.count (bits_in a.marks.now) l.k 0 (omega arith)) in
-    ⊎_elim
-    (λ w. let e = ones-one m l.k (omega arith) (sym read ∙ w.0.taken) in (omega arith, omega arith, omega arith))
-    (λ w. let e = ones-other m l.k (omega arith) (λ z. w.0.left (read ∙ z)) in (omega arith, omega arith, omega arith))
-    c.if-bit-eq1.branch
+    elim c.if-bit-eq1.branch [
+      then-bit-eq1 w ↦ let e = ones-one m l.k (omega arith) (sym read ∙ w.if-bit-eq1.true) in let s = w.sum-is in (omega arith, omega arith, omega arith)
+    | else-bit-eq1 w ↦ let e = ones-other m l.k (omega arith) (λ z. w.if-bit-eq1.false (read ∙ z)) in let s = w.sum-is in (omega arith, omega arith, omega arith)
+    ]
 
 pub returns : goal.returns
 returns c =

@@ -22,7 +22,7 @@ overflow_add-marks c =
     omega arith in
     let a = c.args in
     let e = power_fits (a.k % 8) (omega arith) in
-    omega (arith, bit_fits 8 (a.k % 8) (get_or a.marks.now (a.k / 8) 0) (omega arith) (omega (arith, c.slice_known-2-1.given (a.k / 8))) (zero_bit))
+    omega (arith, bit_fits 8 (a.k % 8) (get_or a.marks.now (a.k / 8) 0) (omega arith) (?) (zero_bit))
 
 pub returns : goal.returns
 returns c =

@@ -3,7 +3,6 @@ use Prim.Native.Nat.{ℕ, ◌+◌, ◌-◌, ◌*◌, ◌≤◌, ◌<◌}
 use mathlib.Core.Path.{◌≡◌, refl, sym, ◌∙◌}
 use mathlib.Core.Bool.{false}
 use mathlib.Core.List.{List}
-use mathlib.Core.Logic.{⊎_elim}
 use native.Mathlib.Omega.{arith}
 use lib.ListN.{drop, take}
 use Rattle.message.specs.Bound.{big_endian}
@@ -15,15 +14,15 @@ use Rattle.index.specs.Filter.{Outside}
 use Rattle.removal.specs.Removing.{bits_in}
 use Rattle.removal.proofs.Removing.{word_outside, Found, found_none, found-few, found-one, found-other, found_past}
 use Rattle.removal.proofs.marking.mark_inside.Goals as goal
+use Rattle.removal.proofs.marking.mark_inside.Goals.{then-mark_one, else-mark_one}
 
 pub loop-j-init : goal.loop-j-init
 loop-j-init c =
-    let start : tie.Start invariant-loop decreases-loop = c in
-    let past : (marks : List ℕ) (found j r : ℕ) → j ≤ r → ((i : ℕ) → j ≤ i → i < r → Outside start.args.low start.args.high (big_endian 8 (drop (i * 32) start.args.ids.now))) → Found (ids_in start.args.count start.args.list.now) start.args.ids.now marks start.args.count found j → Found (ids_in start.args.count start.args.list.now) start.args.ids.now marks start.args.count found r = λ marks found j r h out f. let a = start.args in
+    let past : (marks : List ℕ) (found j r : ℕ) → j ≤ r → ((i : ℕ) → j ≤ i → i < r → Outside c.args.low c.args.high (big_endian 8 (drop (i * 32) c.args.ids.now))) → Found (ids_in c.args.count c.args.list.now) c.args.ids.now marks c.args.count found j → Found (ids_in c.args.count c.args.list.now) c.args.ids.now marks c.args.count found r = λ marks found j r h out f. let a = c.args in
     let list : Small a.list.now = λ k. omega (arith, c.type_inv.list k) in
     let ids : Small a.ids.now = λ k. omega (arith, c.type_inv.ids k) in
-    let none : (i : ℕ) → j ≤ i → i < r → some (same (take 32 (drop (i * 32) a.ids.now))) (ids_in a.count a.list.now) ≡ false = λ i l g. word_outside a.list.now a.count (drop (i * 32) a.ids.now) start.pre.4 start.pre.0 list (small-drop (i * 32) a.ids.now ids)
-    (rw (← start.pre.5, ← start.pre.6) (out i l g)) in
+    let none : (i : ℕ) → j ≤ i → i < r → some (same (take 32 (drop (i * 32) a.ids.now))) (ids_in a.count a.list.now) ≡ false = λ i l g. word_outside a.list.now a.count (drop (i * 32) a.ids.now) c.requires.4 c.requires.0 list (small-drop (i * 32) a.ids.now ids)
+    (rw (← c.requires.5, ← c.requires.6) (out i l g)) in
     let e : j + (r - j) ≡ r = omega arith in
     rw e at (found_past (ids_in a.count a.list.now) a.ids.now a.count marks found (r - j) j (λ i l g. none i l (omega arith)) f) in
     let a = c.args in
@@ -42,12 +41,11 @@ overflow_add-found c =
 
 pub loop-j-preserved : goal.loop-j-preserved
 loop-j-preserved c =
-    let start : tie.Start invariant-loop decreases-loop = c in
-    let past : (marks : List ℕ) (found j r : ℕ) → j ≤ r → ((i : ℕ) → j ≤ i → i < r → Outside start.args.low start.args.high (big_endian 8 (drop (i * 32) start.args.ids.now))) → Found (ids_in start.args.count start.args.list.now) start.args.ids.now marks start.args.count found j → Found (ids_in start.args.count start.args.list.now) start.args.ids.now marks start.args.count found r = λ marks found j r h out f. let a = start.args in
+    let past : (marks : List ℕ) (found j r : ℕ) → j ≤ r → ((i : ℕ) → j ≤ i → i < r → Outside c.args.low c.args.high (big_endian 8 (drop (i * 32) c.args.ids.now))) → Found (ids_in c.args.count c.args.list.now) c.args.ids.now marks c.args.count found j → Found (ids_in c.args.count c.args.list.now) c.args.ids.now marks c.args.count found r = λ marks found j r h out f. let a = c.args in
     let list : Small a.list.now = λ k. omega (arith, c.type_inv.list k) in
     let ids : Small a.ids.now = λ k. omega (arith, c.type_inv.ids k) in
-    let none : (i : ℕ) → j ≤ i → i < r → some (same (take 32 (drop (i * 32) a.ids.now))) (ids_in a.count a.list.now) ≡ false = λ i l g. word_outside a.list.now a.count (drop (i * 32) a.ids.now) start.pre.4 start.pre.0 list (small-drop (i * 32) a.ids.now ids)
-    (rw (← start.pre.5, ← start.pre.6) (out i l g)) in
+    let none : (i : ℕ) → j ≤ i → i < r → some (same (take 32 (drop (i * 32) a.ids.now))) (ids_in a.count a.list.now) ≡ false = λ i l g. word_outside a.list.now a.count (drop (i * 32) a.ids.now) c.requires.4 c.requires.0 list (small-drop (i * 32) a.ids.now ids)
+    (rw (← c.requires.5, ← c.requires.6) (out i l g)) in
     let e : j + (r - j) ≡ r = omega arith in
     rw e at (found_past (ids_in a.count a.list.now) a.ids.now a.count marks found (r - j) j (λ i l g. none i l (omega arith)) f) in
     let a = c.args in
@@ -58,10 +56,11 @@ loop-j-preserved c =
     let after = bits_in t.new.marks in
     let told = rw (rest_is (l.j * 32) a.ids.now) at t.ensures.value in
     let marked = rw (rest_is (l.j * 32) a.ids.now) at (t.ensures.by_index (ids_in l.j a.ids.now) l.invariant.2.marked) in
-    let now : Found ds a.ids.now after a.count c.if-mark_one.found (l.j + 1) = ⊎_elim
-    (λ w. rw w.1 (found-one ds a.ids.now a.count (bits_in l.marks) l.found l.j l.invariant.2 after (sym told ∙ w.0.taken) marked))
-    (λ w. rw w.1 (found-other ds a.ids.now a.count (bits_in l.marks) l.found l.j l.invariant.2 after (sym told ∙ w.0.left) marked))
-    c.if-mark_one.branch in
+    let now : Found ds a.ids.now after a.count c.if-mark_one.found (l.j + 1) =
+      elim c.if-mark_one.branch [
+        then-mark_one w ↦ rw w.found-is (found-one ds a.ids.now a.count (bits_in l.marks) l.found l.j l.invariant.2 after (sym told ∙ w.if-mark_one.true) marked)
+      | else-mark_one w ↦ rw w.found-is (found-other ds a.ids.now a.count (bits_in l.marks) l.found l.j l.invariant.2 after (sym told ∙ w.if-mark_one.false) marked)
+      ] in
     (e.1, t.auto.marks ∙ l.invariant.1, past after c.if-mark_one.found (l.j + 1) c.next_inside-j-in-loop-j.result e.0 e.2 now)
 
 pub returns : goal.returns

@@ -26,9 +26,8 @@ returns c =
     let there : some (same (take 32 c.args.id.now)) (ids_in c.args.count c.args.list.now) ≡ true = sym c.known.ensures ∙ c.if-not-known.false in
     let a = c.args in
     let h = there in
-    let both = (
-      sym h,
-      λ us e. rw c.set_bit.ensures
-          (found-marked a.list.now a.count a.id.now c.place_by-place.result c.requires.3 c.place_by-place.ensures.0 h us (bits_in a.marks.now) e),
-    ) in
-    record { value = both.0; by_index = both.1 }
+    record {
+      value = sym h;
+      by_index = λ us e. rw c.set_bit.ensures
+          (found-marked a.list.now a.count a.id.now c.place_by-place.result c.requires.3 c.place_by-place.ensures.0 h us (bits_in a.marks.now) e);
+    }

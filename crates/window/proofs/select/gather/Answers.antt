@@ -68,13 +68,12 @@ loop-walk-preserved-in-Fingerprint c =
 pub gather_list-n-requires : goal.gather_list-n-requires
 gather_list-n-requires c =
     let table : Table = lent c.args.times.now c.args.own.now in
-    let begun : tie.Start invariant-loop decreases-loop = c in
-    let room : Room c.loop-walk.keys c.loop-walk.places c.loop-walk.found = let a = begun.args in
+    let room : Room c.loop-walk.keys c.loop-walk.places c.loop-walk.found = let a = c.args in
     let v = c.loop-walk.invariant in
-    room-kept a.keys.now a.places.now a.found.now c.loop-walk.keys c.loop-walk.places c.loop-walk.found begun.pre.5 v.3 v.4 v.5 in
-    let picking : Picking c.loop-walk.ids c.loop-walk.picks c.loop-walk.found = let a = begun.args in
+    room-kept a.keys.now a.places.now a.found.now c.loop-walk.keys c.loop-walk.places c.loop-walk.found c.requires.5 v.3 v.4 v.5 in
+    let picking : Picking c.loop-walk.ids c.loop-walk.picks c.loop-walk.found = let a = c.args in
     let v = c.loop-walk.invariant in
-    picking_kept a.ids.now a.picks.now a.found.now c.loop-walk.ids c.loop-walk.picks c.loop-walk.found begun.pre.6 v.6 v.7 v.5 in
+    picking_kept a.ids.now a.picks.now a.found.now c.loop-walk.ids c.loop-walk.picks c.loop-walk.found c.requires.6 v.6 v.7 v.5 in
     let v = c.loop-walk.invariant in
     let t = c.step-step in
     let span = t.result.span in

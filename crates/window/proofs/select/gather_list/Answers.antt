@@ -17,23 +17,21 @@ loop-i-init c =
 
 pub pick-p-requires : goal.pick-p-requires
 pick-p-requires c =
-    let begun : tie.Start invariant-loop decreases-loop = c in
-    let picking : Picking c.loop-i.ids c.loop-i.picks c.loop-i.found = let a = begun.args in
+    let picking : Picking c.loop-i.ids c.loop-i.picks c.loop-i.found = let a = c.args in
     let v = c.loop-i.invariant in
-    picking_kept a.ids.now a.picks.now a.found.now c.loop-i.ids c.loop-i.picks c.loop-i.found begun.pre.8 v.6 v.7 v.5 in
+    picking_kept a.ids.now a.picks.now a.found.now c.loop-i.ids c.loop-i.picks c.loop-i.found c.requires.8 v.6 v.7 v.5 in
     let v = c.loop-i.invariant in
     let p = picking in
     (c.requires.2, c.loop-i-test.true, c.requires.3, v.1 ∙ c.requires.4, v.2 ∙ c.requires.5, v.8, p.some, p.wide)
 
 pub offer_others-n-requires : goal.offer_others-n-requires
 offer_others-n-requires c =
-    let begun : tie.Start invariant-loop decreases-loop = c in
-    let room : Room c.loop-i.keys c.loop-i.places c.loop-i.found = let a = begun.args in
+    let room : Room c.loop-i.keys c.loop-i.places c.loop-i.found = let a = c.args in
     let v = c.loop-i.invariant in
-    room-kept a.keys.now a.places.now a.found.now c.loop-i.keys c.loop-i.places c.loop-i.found begun.pre.7 v.3 v.4 v.5 in
-    let picking : Picking c.loop-i.ids c.loop-i.picks c.loop-i.found = let a = begun.args in
+    room-kept a.keys.now a.places.now a.found.now c.loop-i.keys c.loop-i.places c.loop-i.found c.requires.7 v.3 v.4 v.5 in
+    let picking : Picking c.loop-i.ids c.loop-i.picks c.loop-i.found = let a = c.args in
     let v = c.loop-i.invariant in
-    picking_kept a.ids.now a.picks.now a.found.now c.loop-i.ids c.loop-i.picks c.loop-i.found begun.pre.8 v.6 v.7 v.5 in
+    picking_kept a.ids.now a.picks.now a.found.now c.loop-i.ids c.loop-i.picks c.loop-i.found c.requires.8 v.6 v.7 v.5 in
     let l = c.loop-i in
     let v = l.invariant in
     let p = c.pick-p in

@@ -15,29 +15,9 @@ use Rattle.needed.specs.Batches.{meant, not_found}
 use Rattle.needed.proofs.Batching.{unowned_in, Adding, adding_starts, adding_on, adding_ends, adding_room_part, adding_part, others_all, others-next, others-whole, others-none, new_whole}
 use Rattle.needed.proofs.batch.add_list_up.Goals as goal
 
-record Ranges : Type 0 where
-  few : c.loop.i ≤ start.args.count
-  needed : length c.loop.needed ≡ length start.args.needed.now
-  words : length c.loop.words ≡ length start.args.words.now
-  pos : length c.loop.pos ≡ length start.args.pos.now
-  keys : length c.loop.keys ≡ length start.args.keys.now
-  places : length c.loop.places ≡ length start.args.places.now
-  found : length c.loop.found ≡ length start.args.found.now
-  some : 0 < length start.args.keys.now
-  beside : length start.args.keys.now + length start.args.keys.now + 1 < length start.args.places.now
-  bound : length start.args.keys.now ≤ 1048576
-  noted : 0 < length start.args.found.now
-
--- the ids that are looked up together
-record Part (c : tie.After-block invariant-loop decreases-loop) : Type 0 where
-  left_over : c.block.result ≤ c.before.before.before.before.before.before.before.before.before.before.before.before.before.args.count - c.before.before.loop.i
-  room : c.block.result ≤ length c.before.before.loop.found
-  some : 0 < c.block.result
-
 pub loop-i-init : goal.loop-i-init
 loop-i-init c =
-    let start : tie.Start invariant-loop decreases-loop = c in
-    let m : List ℕ = start.args.m.now in
+    let m : List ℕ = c.args.m.now in
     let a = c.args in
     (
       omega arith,
@@ -54,17 +34,25 @@ loop-i-init c =
 
 pub contains_each-requires : goal.contains_each-requires
 contains_each-requires c =
-    let start : tie.Start invariant-loop decreases-loop = c in
-    let m : List ℕ = start.args.m.now in
-    let ranges : Ranges = let v = c.loop-i.invariant in
-    let r = start.pre.5 in
-    record { few = v.0; needed = v.1; words = v.2; pos = v.3; keys = v.4; places = v.5; found = v.6; some = r.some; beside = r.beside; bound = r.few; noted = r.noted } in
-    let part : Part c = let e = c.block-n.ensures in
-    let g = ranges in
-    record { left_over = e.0; room = e.1; some = e.2 (omega arith) (omega arith) (omega arith) } in
+    let m : List ℕ = c.args.m.now in
+    let v = c.loop-i.invariant in
+    let r = c.requires.5 in
+    let few : c.loop-i.i ≤ c.args.count = v.0 in
+    let long-needed : length c.loop-i.needed ≡ length c.args.needed.now = v.1 in
+    let long-words : length c.loop-i.words ≡ length c.args.words.now = v.2 in
+    let long-pos : length c.loop-i.pos ≡ length c.args.pos.now = v.3 in
+    let long-keys : length c.loop-i.keys ≡ length c.args.keys.now = v.4 in
+    let long-places : length c.loop-i.places ≡ length c.args.places.now = v.5 in
+    let long-found : length c.loop-i.found ≡ length c.args.found.now = v.6 in
+    let keyed : 0 < length c.args.keys.now = r.some in
+    let beside : length c.args.keys.now + length c.args.keys.now + 1 < length c.args.places.now = r.beside in
+    let bound : length c.args.keys.now ≤ 1048576 = r.few in
+    let noted : 0 < length c.args.found.now = r.noted in
+    let e = c.block-n.ensures in
+    let left_over : c.block-n.result ≤ c.args.count - c.loop-i.i = e.0 in
+    let in-room : c.block-n.result ≤ length c.loop-i.found = e.1 in
+    let taken : 0 < c.block-n.result = e.2 (omega arith) (omega arith) (omega arith) in
     let a = c.args in
-    let g = ranges in
-    let p = part in
     let at = a.at + c.loop-i.i * 32 in
     let from = a.span.lo * 32 in
     let ordered = c.requires.2 in
@@ -74,47 +62,50 @@ contains_each-requires c =
 
 pub add_new-batch-requires : goal.add_new-batch-requires
 add_new-batch-requires c =
-    let start : tie.Start invariant-loop decreases-loop = c in
-    let m : List ℕ = start.args.m.now in
-    let first : ℕ = start.args.span.lo * 32 in
-    let owned : ℕ = start.args.span.hi - start.args.span.lo in
-    let whole : List (List ℕ) = foldr insert (meant m start.args.needed.now start.args.pos.now start.args.batch) (unowned_in start.args.own.now first owned (ids_in start.args.count (drop start.args.at m))) in
-    let left : ℕ → List (List ℕ) = λ i. unowned_in start.args.own.now first owned (list_from m start.args.count start.args.at i) in
-    let ranges : Ranges = let v = c.loop-i.invariant in
-    let r = start.pre.5 in
-    record { few = v.0; needed = v.1; words = v.2; pos = v.3; keys = v.4; places = v.5; found = v.6; some = r.some; beside = r.beside; bound = r.few; noted = r.noted } in
+    let m : List ℕ = c.args.m.now in
+    let first : ℕ = c.args.span.lo * 32 in
+    let owned : ℕ = c.args.span.hi - c.args.span.lo in
+    let whole : List (List ℕ) = foldr insert (meant m c.args.needed.now c.args.pos.now c.args.batch) (unowned_in c.args.own.now first owned (ids_in c.args.count (drop c.args.at m))) in
+    let left : ℕ → List (List ℕ) = λ i. unowned_in c.args.own.now first owned (list_from m c.args.count c.args.at i) in
+    let v = c.loop-i.invariant in
+    let r = c.requires.5 in
+    let few : c.loop-i.i ≤ c.args.count = v.0 in
+    let long-needed : length c.loop-i.needed ≡ length c.args.needed.now = v.1 in
+    let long-words : length c.loop-i.words ≡ length c.args.words.now = v.2 in
+    let long-pos : length c.loop-i.pos ≡ length c.args.pos.now = v.3 in
+    let long-keys : length c.loop-i.keys ≡ length c.args.keys.now = v.4 in
+    let long-places : length c.loop-i.places ≡ length c.args.places.now = v.5 in
+    let long-found : length c.loop-i.found ≡ length c.args.found.now = v.6 in
+    let keyed : 0 < length c.args.keys.now = r.some in
+    let beside : length c.args.keys.now + length c.args.keys.now + 1 < length c.args.places.now = r.beside in
+    let bound : length c.args.keys.now ≤ 1048576 = r.few in
+    let noted : 0 < length c.args.found.now = r.noted in
     let small : Small m = λ k. omega (arith, c.type_inv.m k) in
-    let part : Part c = let e = c.block-n.ensures in
-    let g = ranges in
-    record { left_over = e.0; room = e.1; some = e.2 (omega arith) (omega arith) (omega arith) } in
+    let e = c.block-n.ensures in
+    let left_over : c.block-n.result ≤ c.args.count - c.loop-i.i = e.0 in
+    let in-room : c.block-n.result ≤ length c.loop-i.found = e.1 in
+    let taken : 0 < c.block-n.result = e.2 (omega arith) (omega arith) (omega arith) in
     let next : let l = c.loop-i in
     let n = c.block-n.result in
     let found = c.contains_each.new.found in
-    Adding (m) (start).args.needed.now (start).args.batch (whole) (not_found found n (drop ((start).args.at + l.i * 32) (m)) ++ left (l.i + n)) l.needed l.words l.pos l.batch = let l = c.loop-i in
-    let a = (start).args in
-    let p = part in
-    let g = ranges in
+    Adding (m) c.args.needed.now c.args.batch (whole) (not_found found n (drop (c.args.at + l.i * 32) (m)) ++ left (l.i + n)) l.needed l.words l.pos l.batch = let l = c.loop-i in
+    let a = c.args in
     adding_on (m) a.needed.now a.batch _ _ l.needed l.words l.pos l.batch _
     (others-next a.own.now (first) (owned) (m) a.count a.at c.contains_each.new.found l.i c.block-n.result (omega arith) c.contains_each.ensures) l.invariant.8 in
-    let new-sized : All (Sized 32) (not_found c.contains_each.new.found c.block-n.result (drop ((start).args.at + c.loop-i.i * 32) (m))) = let p = part in
-    let g = ranges in
-    let h = (start).requires.4 in
-    let at = (start).args.at + c.loop-i.i * 32 in
+    let new-sized : All (Sized 32) (not_found c.contains_each.new.found c.block-n.result (drop (c.args.at + c.loop-i.i * 32) (m))) =
+    let h = c.requires.4 in
+    let at = c.args.at + c.loop-i.i * 32 in
     new_whole c.block-n.result c.contains_each.new.found (drop at (m)) (small-drop at (m) (small)) (omega (arith, length-drop at (m))) in
-    let left-sized : All (Sized 32) (left (c.loop-i.i + c.block-n.result)) = let a = (start).args in
-    let p = part in
-    let g = ranges in
-    others-whole a.own.now (first) (owned) (m) a.count a.at (c.loop-i.i + c.block-n.result) (small) (start).requires.4 (omega arith) in
-    let newIn : List (List ℕ) = not_found c.contains_each.new.found c.block-n.result (drop ((start).args.at + c.loop-i.i * 32) (m)) in
-    let l = c.loop in
-    let a = (start).args in
-    let g = ranges in
-    let p = part in
+    let left-sized : All (Sized 32) (left (c.loop-i.i + c.block-n.result)) = let a = c.args in
+    others-whole a.own.now (first) (owned) (m) a.count a.at (c.loop-i.i + c.block-n.result) (small) c.requires.4 (omega arith) in
+    let newIn : List (List ℕ) = not_found c.contains_each.new.found c.block-n.result (drop (c.args.at + c.loop-i.i * 32) (m)) in
+    let l = c.loop-i in
+    let a = c.args in
     let n = l.invariant.1 in
-    let f : length c.contains-each.new.1.1.1.1.1.1.0 ≡ length l.found = c.contains-each.auto.1.1.1.1.1.1.0 in
-    let some = (start).requires.1 in
-    let listed = (start).requires.4 in
-    let room = (start).requires.6 in
+    let f : length c.contains_each.new.found ≡ length l.found = c.contains_each.auto.found in
+    let some = c.requires.1 in
+    let listed = c.requires.4 in
+    let room = c.requires.6 in
     (
       l.invariant.8.batched,
       omega arith,
@@ -125,51 +116,54 @@ add_new-batch-requires c =
 
 pub loop-i-preserved : goal.loop-i-preserved
 loop-i-preserved c =
-    let start : tie.Start invariant-loop decreases-loop = c in
-    let m : List ℕ = start.args.m.now in
-    let first : ℕ = start.args.span.lo * 32 in
-    let owned : ℕ = start.args.span.hi - start.args.span.lo in
-    let whole : List (List ℕ) = foldr insert (meant m start.args.needed.now start.args.pos.now start.args.batch) (unowned_in start.args.own.now first owned (ids_in start.args.count (drop start.args.at m))) in
-    let left : ℕ → List (List ℕ) = λ i. unowned_in start.args.own.now first owned (list_from m start.args.count start.args.at i) in
-    let ranges : Ranges = let v = c.loop-i.invariant in
-    let r = start.pre.5 in
-    record { few = v.0; needed = v.1; words = v.2; pos = v.3; keys = v.4; places = v.5; found = v.6; some = r.some; beside = r.beside; bound = r.few; noted = r.noted } in
+    let m : List ℕ = c.args.m.now in
+    let first : ℕ = c.args.span.lo * 32 in
+    let owned : ℕ = c.args.span.hi - c.args.span.lo in
+    let whole : List (List ℕ) = foldr insert (meant m c.args.needed.now c.args.pos.now c.args.batch) (unowned_in c.args.own.now first owned (ids_in c.args.count (drop c.args.at m))) in
+    let left : ℕ → List (List ℕ) = λ i. unowned_in c.args.own.now first owned (list_from m c.args.count c.args.at i) in
+    let v = c.loop-i.invariant in
+    let r = c.requires.5 in
+    let few : c.loop-i.i ≤ c.args.count = v.0 in
+    let long-needed : length c.loop-i.needed ≡ length c.args.needed.now = v.1 in
+    let long-words : length c.loop-i.words ≡ length c.args.words.now = v.2 in
+    let long-pos : length c.loop-i.pos ≡ length c.args.pos.now = v.3 in
+    let long-keys : length c.loop-i.keys ≡ length c.args.keys.now = v.4 in
+    let long-places : length c.loop-i.places ≡ length c.args.places.now = v.5 in
+    let long-found : length c.loop-i.found ≡ length c.args.found.now = v.6 in
+    let keyed : 0 < length c.args.keys.now = r.some in
+    let beside : length c.args.keys.now + length c.args.keys.now + 1 < length c.args.places.now = r.beside in
+    let bound : length c.args.keys.now ≤ 1048576 = r.few in
+    let noted : 0 < length c.args.found.now = r.noted in
     let small : Small m = λ k. omega (arith, c.type_inv.m k) in
-    let part : Part c = let e = c.block-n.ensures in
-    let g = ranges in
-    record { left_over = e.0; room = e.1; some = e.2 (omega arith) (omega arith) (omega arith) } in
+    let e = c.block-n.ensures in
+    let left_over : c.block-n.result ≤ c.args.count - c.loop-i.i = e.0 in
+    let in-room : c.block-n.result ≤ length c.loop-i.found = e.1 in
+    let taken : 0 < c.block-n.result = e.2 (omega arith) (omega arith) (omega arith) in
     let next : let l = c.loop-i in
     let n = c.block-n.result in
     let found = c.contains_each.new.found in
-    Adding (m) (start).args.needed.now (start).args.batch (whole) (not_found found n (drop ((start).args.at + l.i * 32) (m)) ++ left (l.i + n)) l.needed l.words l.pos l.batch = let l = c.loop-i in
-    let a = (start).args in
-    let p = part in
-    let g = ranges in
+    Adding (m) c.args.needed.now c.args.batch (whole) (not_found found n (drop (c.args.at + l.i * 32) (m)) ++ left (l.i + n)) l.needed l.words l.pos l.batch = let l = c.loop-i in
+    let a = c.args in
     adding_on (m) a.needed.now a.batch _ _ l.needed l.words l.pos l.batch _
     (others-next a.own.now (first) (owned) (m) a.count a.at c.contains_each.new.found l.i c.block-n.result (omega arith) c.contains_each.ensures) l.invariant.8 in
-    let new-sized : All (Sized 32) (not_found c.contains_each.new.found c.block-n.result (drop ((start).args.at + c.loop-i.i * 32) (m))) = let p = part in
-    let g = ranges in
-    let h = (start).requires.4 in
-    let at = (start).args.at + c.loop-i.i * 32 in
+    let new-sized : All (Sized 32) (not_found c.contains_each.new.found c.block-n.result (drop (c.args.at + c.loop-i.i * 32) (m))) =
+    let h = c.requires.4 in
+    let at = c.args.at + c.loop-i.i * 32 in
     new_whole c.block-n.result c.contains_each.new.found (drop at (m)) (small-drop at (m) (small)) (omega (arith, length-drop at (m))) in
-    let left-sized : All (Sized 32) (left (c.loop-i.i + c.block-n.result)) = let a = (start).args in
-    let p = part in
-    let g = ranges in
-    others-whole a.own.now (first) (owned) (m) a.count a.at (c.loop-i.i + c.block-n.result) (small) (start).requires.4 (omega arith) in
-    let newIn : List (List ℕ) = not_found c.contains_each.new.found c.block-n.result (drop ((start).args.at + c.loop-i.i * 32) (m)) in
-    let l = c.loop in
-    let a = (start).args in
+    let left-sized : All (Sized 32) (left (c.loop-i.i + c.block-n.result)) = let a = c.args in
+    others-whole a.own.now (first) (owned) (m) a.count a.at (c.loop-i.i + c.block-n.result) (small) c.requires.4 (omega arith) in
+    let newIn : List (List ℕ) = not_found c.contains_each.new.found c.block-n.result (drop (c.args.at + c.loop-i.i * 32) (m)) in
+    let l = c.loop-i in
+    let a = c.args in
     let t = c.add_new-batch in
-    let g = ranges in
-    let p = part in
     (
       omega arith,
       t.auto.needed ∙ l.invariant.1,
       t.auto.words ∙ l.invariant.2,
       t.auto.pos ∙ l.invariant.3,
-      c.contains-each.auto.1.1.1.1.0 ∙ l.invariant.4,
-      c.contains-each.auto.1.1.1.1.1.0 ∙ l.invariant.5,
-      c.contains-each.auto.1.1.1.1.1.1.0 ∙ l.invariant.6,
+      c.contains_each.auto.words ∙ l.invariant.4,
+      c.contains_each.auto.pos ∙ l.invariant.5,
+      c.contains_each.auto.found ∙ l.invariant.6,
       λ i. omega (arith, c.type_inv.needed i),
       adding_part (m) a.needed.now a.batch (whole) (newIn) (left (l.i + c.block-n.result)) l.needed l.words l.pos l.batch (small) l.invariant.7 (new-sized) (left-sized) (next)
           t.new.needed t.new.words t.new.pos t.result t.ensures,
@@ -177,14 +171,13 @@ loop-i-preserved c =
 
 pub returns : goal.returns
 returns c =
-    let start : tie.Start invariant-loop decreases-loop = c in
-    let m : List ℕ = start.args.m.now in
-    let first : ℕ = start.args.span.lo * 32 in
-    let owned : ℕ = start.args.span.hi - start.args.span.lo in
-    let whole : List (List ℕ) = foldr insert (meant m start.args.needed.now start.args.pos.now start.args.batch) (unowned_in start.args.own.now first owned (ids_in start.args.count (drop start.args.at m))) in
-    let left : ℕ → List (List ℕ) = λ i. unowned_in start.args.own.now first owned (list_from m start.args.count start.args.at i) in
+    let m : List ℕ = c.args.m.now in
+    let first : ℕ = c.args.span.lo * 32 in
+    let owned : ℕ = c.args.span.hi - c.args.span.lo in
+    let whole : List (List ℕ) = foldr insert (meant m c.args.needed.now c.args.pos.now c.args.batch) (unowned_in c.args.own.now first owned (ids_in c.args.count (drop c.args.at m))) in
+    let left : ℕ → List (List ℕ) = λ i. unowned_in c.args.own.now first owned (list_from m c.args.count c.args.at i) in
     let l = c.loop-i in
-    let a = (start).args in
+    let a = c.args in
     adding_ends (m) a.needed.now a.batch (whole) (left l.i) l.needed l.words l.pos l.batch (others-none a.own.now (first) (owned) (m) a.count a.at l.i (omega arith)) l.invariant.8
 
 pub overflow_mul-start : goal.overflow_mul-start
@@ -198,21 +191,37 @@ overflow_sub-owned c = c.requires.2
 
 pub overflow_mul-p : goal.overflow_mul-p
 overflow_mul-p c =
-    let start : tie.Start invariant-loop decreases-loop = c in
-    let ranges : Ranges = let v = c.loop-i.invariant in
-    let r = start.pre.5 in
-    record { few = v.0; needed = v.1; words = v.2; pos = v.3; keys = v.4; places = v.5; found = v.6; some = r.some; beside = r.beside; bound = r.few; noted = r.noted } in
-    let g = ranges in
+    let v = c.loop-i.invariant in
+    let r = c.requires.5 in
+    let few : c.loop-i.i ≤ c.args.count = v.0 in
+    let long-needed : length c.loop-i.needed ≡ length c.args.needed.now = v.1 in
+    let long-words : length c.loop-i.words ≡ length c.args.words.now = v.2 in
+    let long-pos : length c.loop-i.pos ≡ length c.args.pos.now = v.3 in
+    let long-keys : length c.loop-i.keys ≡ length c.args.keys.now = v.4 in
+    let long-places : length c.loop-i.places ≡ length c.args.places.now = v.5 in
+    let long-found : length c.loop-i.found ≡ length c.args.found.now = v.6 in
+    let keyed : 0 < length c.args.keys.now = r.some in
+    let beside : length c.args.keys.now + length c.args.keys.now + 1 < length c.args.places.now = r.beside in
+    let bound : length c.args.keys.now ≤ 1048576 = r.few in
+    let noted : 0 < length c.args.found.now = r.noted in
     let h = c.requires.4 in
     omega arith
 
 pub overflow_add-p : goal.overflow_add-p
 overflow_add-p c =
-    let start : tie.Start invariant-loop decreases-loop = c in
-    let ranges : Ranges = let v = c.loop-i.invariant in
-    let r = start.pre.5 in
-    record { few = v.0; needed = v.1; words = v.2; pos = v.3; keys = v.4; places = v.5; found = v.6; some = r.some; beside = r.beside; bound = r.few; noted = r.noted } in
-    let g = ranges in
+    let v = c.loop-i.invariant in
+    let r = c.requires.5 in
+    let few : c.loop-i.i ≤ c.args.count = v.0 in
+    let long-needed : length c.loop-i.needed ≡ length c.args.needed.now = v.1 in
+    let long-words : length c.loop-i.words ≡ length c.args.words.now = v.2 in
+    let long-pos : length c.loop-i.pos ≡ length c.args.pos.now = v.3 in
+    let long-keys : length c.loop-i.keys ≡ length c.args.keys.now = v.4 in
+    let long-places : length c.loop-i.places ≡ length c.args.places.now = v.5 in
+    let long-found : length c.loop-i.found ≡ length c.args.found.now = v.6 in
+    let keyed : 0 < length c.args.keys.now = r.some in
+    let beside : length c.args.keys.now + length c.args.keys.now + 1 < length c.args.places.now = r.beside in
+    let bound : length c.args.keys.now ≤ 1048576 = r.few in
+    let noted : 0 < length c.args.found.now = r.noted in
     let h = c.requires.4 in
     omega arith
 
@@ -230,51 +239,83 @@ slice_bounds-contains_each-start c =
 
 pub slice_bounds-contains_each-count-in-loop-i : goal.slice_bounds-contains_each-count-in-loop-i
 slice_bounds-contains_each-count-in-loop-i c =
-    let start : tie.Start invariant-loop decreases-loop = c in
-    let ranges : Ranges = let v = c.loop-i.invariant in
-    let r = start.pre.5 in
-    record { few = v.0; needed = v.1; words = v.2; pos = v.3; keys = v.4; places = v.5; found = v.6; some = r.some; beside = r.beside; bound = r.few; noted = r.noted } in
-    let g = ranges in
+    let v = c.loop-i.invariant in
+    let r = c.requires.5 in
+    let few : c.loop-i.i ≤ c.args.count = v.0 in
+    let long-needed : length c.loop-i.needed ≡ length c.args.needed.now = v.1 in
+    let long-words : length c.loop-i.words ≡ length c.args.words.now = v.2 in
+    let long-pos : length c.loop-i.pos ≡ length c.args.pos.now = v.3 in
+    let long-keys : length c.loop-i.keys ≡ length c.args.keys.now = v.4 in
+    let long-places : length c.loop-i.places ≡ length c.args.places.now = v.5 in
+    let long-found : length c.loop-i.found ≡ length c.args.found.now = v.6 in
+    let keyed : 0 < length c.args.keys.now = r.some in
+    let beside : length c.args.keys.now + length c.args.keys.now + 1 < length c.args.places.now = r.beside in
+    let bound : length c.args.keys.now ≤ 1048576 = r.few in
+    let noted : 0 < length c.args.found.now = r.noted in
     let h = c.requires.4 in
     omega arith
 
 pub slice_bounds-contains_each-start-in-loop-i : goal.slice_bounds-contains_each-start-in-loop-i
 slice_bounds-contains_each-start-in-loop-i c =
-    let start : tie.Start invariant-loop decreases-loop = c in
-    let ranges : Ranges = let v = c.loop-i.invariant in
-    let r = start.pre.5 in
-    record { few = v.0; needed = v.1; words = v.2; pos = v.3; keys = v.4; places = v.5; found = v.6; some = r.some; beside = r.beside; bound = r.few; noted = r.noted } in
-    let g = ranges in
+    let v = c.loop-i.invariant in
+    let r = c.requires.5 in
+    let few : c.loop-i.i ≤ c.args.count = v.0 in
+    let long-needed : length c.loop-i.needed ≡ length c.args.needed.now = v.1 in
+    let long-words : length c.loop-i.words ≡ length c.args.words.now = v.2 in
+    let long-pos : length c.loop-i.pos ≡ length c.args.pos.now = v.3 in
+    let long-keys : length c.loop-i.keys ≡ length c.args.keys.now = v.4 in
+    let long-places : length c.loop-i.places ≡ length c.args.places.now = v.5 in
+    let long-found : length c.loop-i.found ≡ length c.args.found.now = v.6 in
+    let keyed : 0 < length c.args.keys.now = r.some in
+    let beside : length c.args.keys.now + length c.args.keys.now + 1 < length c.args.places.now = r.beside in
+    let bound : length c.args.keys.now ≤ 1048576 = r.few in
+    let noted : 0 < length c.args.found.now = r.noted in
     let h = c.requires.4 in
     search rules
 
 pub overflow_add-i : goal.overflow_add-i
 overflow_add-i c =
-    let start : tie.Start invariant-loop decreases-loop = c in
-    let ranges : Ranges = let v = c.loop-i.invariant in
-    let r = start.pre.5 in
-    record { few = v.0; needed = v.1; words = v.2; pos = v.3; keys = v.4; places = v.5; found = v.6; some = r.some; beside = r.beside; bound = r.few; noted = r.noted } in
-    let part : Part c = let e = c.block-n.ensures in
-    let g = ranges in
-    record { left_over = e.0; room = e.1; some = e.2 (omega arith) (omega arith) (omega arith) } in
-    let few-more : c.loop-i.i + c.block-n.result < 18446744073709551616 = let g = ranges in
-    let p = part in
-    let h = c.requires.4 in
+    let v = c.loop-i.invariant in
+    let r = c.requires.5 in
+    let few : c.loop-i.i ≤ c.args.count = v.0 in
+    let long-needed : length c.loop-i.needed ≡ length c.args.needed.now = v.1 in
+    let long-words : length c.loop-i.words ≡ length c.args.words.now = v.2 in
+    let long-pos : length c.loop-i.pos ≡ length c.args.pos.now = v.3 in
+    let long-keys : length c.loop-i.keys ≡ length c.args.keys.now = v.4 in
+    let long-places : length c.loop-i.places ≡ length c.args.places.now = v.5 in
+    let long-found : length c.loop-i.found ≡ length c.args.found.now = v.6 in
+    let keyed : 0 < length c.args.keys.now = r.some in
+    let beside : length c.args.keys.now + length c.args.keys.now + 1 < length c.args.places.now = r.beside in
+    let bound : length c.args.keys.now ≤ 1048576 = r.few in
+    let noted : 0 < length c.args.found.now = r.noted in
+    let e = c.block-n.ensures in
+    let left_over : c.block-n.result ≤ c.args.count - c.loop-i.i = e.0 in
+    let in-room : c.block-n.result ≤ length c.loop-i.found = e.1 in
+    let taken : 0 < c.block-n.result = e.2 (omega arith) (omega arith) (omega arith) in
+    let few-more : c.loop-i.i + c.block-n.result < 18446744073709551616 = let h = c.requires.4 in
     omega arith in
     let h = few-more in
     omega (arith, h)
 
 pub loop-i-smaller : goal.loop-i-smaller
 loop-i-smaller c =
-    let start : tie.Start invariant-loop decreases-loop = c in
-    let ranges : Ranges = let v = c.loop-i.invariant in
-    let r = start.pre.5 in
-    record { few = v.0; needed = v.1; words = v.2; pos = v.3; keys = v.4; places = v.5; found = v.6; some = r.some; beside = r.beside; bound = r.few; noted = r.noted } in
-    let part : Part c = let e = c.block-n.ensures in
-    let g = ranges in
-    record { left_over = e.0; room = e.1; some = e.2 (omega arith) (omega arith) (omega arith) } in
-    let g = ranges in
-    let p = part in
+    let v = c.loop-i.invariant in
+    let r = c.requires.5 in
+    let few : c.loop-i.i ≤ c.args.count = v.0 in
+    let long-needed : length c.loop-i.needed ≡ length c.args.needed.now = v.1 in
+    let long-words : length c.loop-i.words ≡ length c.args.words.now = v.2 in
+    let long-pos : length c.loop-i.pos ≡ length c.args.pos.now = v.3 in
+    let long-keys : length c.loop-i.keys ≡ length c.args.keys.now = v.4 in
+    let long-places : length c.loop-i.places ≡ length c.args.places.now = v.5 in
+    let long-found : length c.loop-i.found ≡ length c.args.found.now = v.6 in
+    let keyed : 0 < length c.args.keys.now = r.some in
+    let beside : length c.args.keys.now + length c.args.keys.now + 1 < length c.args.places.now = r.beside in
+    let bound : length c.args.keys.now ≤ 1048576 = r.few in
+    let noted : 0 < length c.args.found.now = r.noted in
+    let e = c.block-n.ensures in
+    let left_over : c.block-n.result ≤ c.args.count - c.loop-i.i = e.0 in
+    let in-room : c.block-n.result ≤ length c.loop-i.found = e.1 in
+    let taken : 0 < c.block-n.result = e.2 (omega arith) (omega arith) (omega arith) in
     omega arith
 
 pub shape_of-needed : goal.shape_of-needed

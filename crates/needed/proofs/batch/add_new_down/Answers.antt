@@ -16,24 +16,23 @@ loop-i-init c =
 
 pub add_unless-batch-requires : goal.add_unless-batch-requires
 add_unless-batch-requires c =
-    let start : tie.Start invariant-loop decreases-loop = c in
-    let part : List (List ℕ) = let a = start.args in
+    let part : List (List ℕ) = let a = c.args in
     unless (get_or a.found.now (c.loop-i.i - 1) 0) (take 32 (drop (a.at + (c.loop-i.i - 1) * 32) a.m.now)) in
-    let rest : List (List ℕ) = let a = start.args in
+    let rest : List (List ℕ) = let a = c.args in
     not_found a.found.now (c.loop-i.i - 1) (drop a.at a.m.now) in
-    let whole : List (List ℕ) = let a = start.args in
+    let whole : List (List ℕ) = let a = c.args in
     foldr insert (meant a.m.now a.needed.now a.pos.now a.batch) (not_found a.found.now a.n (drop a.at a.m.now)) in
-    let next : 0 < c.loop-i.i → let a = start.args in let l = c.loop-i in Adding a.m.now a.needed.now a.batch whole (rest ++ part) l.needed l.words l.pos l.batch = λ h. let a = start.args in
+    let next : 0 < c.loop-i.i → let a = c.args in let l = c.loop-i in Adding a.m.now a.needed.now a.batch whole (rest ++ part) l.needed l.words l.pos l.batch = λ h. let a = c.args in
     let l = c.loop-i in
     adding_on a.m.now a.needed.now a.batch _ _ l.needed l.words l.pos l.batch _ (not-found-last a.found.now a.m.now a.at l.i h) l.invariant.4 in
-    let s = start in
+    let s = c in
     let a = s.args in
     let l = c.loop-i in
     let few = l.invariant.0 in
-    let listed = s.pre.2 in
+    let listed = c.requires.2 in
     let n = l.invariant.1 in
     let p = l.invariant.3 in
-    let room = s.pre.4 in
+    let room = c.requires.4 in
     (
       l.invariant.4.batched,
       omega arith,
@@ -43,17 +42,16 @@ add_unless-batch-requires c =
 
 pub loop-i-preserved : goal.loop-i-preserved
 loop-i-preserved c =
-    let start : tie.Start invariant-loop decreases-loop = c in
-    let part : List (List ℕ) = let a = start.args in
+    let part : List (List ℕ) = let a = c.args in
     unless (get_or a.found.now (c.loop-i.i - 1) 0) (take 32 (drop (a.at + (c.loop-i.i - 1) * 32) a.m.now)) in
-    let rest : List (List ℕ) = let a = start.args in
+    let rest : List (List ℕ) = let a = c.args in
     not_found a.found.now (c.loop-i.i - 1) (drop a.at a.m.now) in
-    let whole : List (List ℕ) = let a = start.args in
+    let whole : List (List ℕ) = let a = c.args in
     foldr insert (meant a.m.now a.needed.now a.pos.now a.batch) (not_found a.found.now a.n (drop a.at a.m.now)) in
-    let next : 0 < c.loop-i.i → let a = start.args in let l = c.loop-i in Adding a.m.now a.needed.now a.batch whole (rest ++ part) l.needed l.words l.pos l.batch = λ h. let a = start.args in
+    let next : 0 < c.loop-i.i → let a = c.args in let l = c.loop-i in Adding a.m.now a.needed.now a.batch whole (rest ++ part) l.needed l.words l.pos l.batch = λ h. let a = c.args in
     let l = c.loop-i in
     adding_on a.m.now a.needed.now a.batch _ _ l.needed l.words l.pos l.batch _ (not-found-last a.found.now a.m.now a.at l.i h) l.invariant.4 in
-    let a = (start).args in
+    let a = c.args in
     let l = c.loop-i in
     let t = c.add_unless-batch in
     let few = l.invariant.0 in
@@ -69,8 +67,7 @@ loop-i-preserved c =
 
 pub returns : goal.returns
 returns c =
-    let start : tie.Start invariant-loop decreases-loop = c in
-    let a = (start).args in
+    let a = c.args in
     let l = c.loop-i in
     adding_ends a.m.now a.needed.now a.batch _ _ l.needed l.words l.pos l.batch (not-found-first a.found.now a.m.now a.at l.i (omega arith)) l.invariant.4
 

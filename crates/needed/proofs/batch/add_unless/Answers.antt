@@ -28,7 +28,7 @@ returns c =
     let e : a.found ≡ 0 = c.if-found-ne0.false in
     let start = adding_starts m a.needed.now a.words.now a.pos.now a.batch (d ∷ []) c.requires.0 in
     let more = adding_puts m a.needed.now a.batch _ [] a.p (λ k. omega (arith, c.type_inv.m k)) c.requires.2 tt
-    a.needed.now a.words.now a.pos.now a.batch (λ k. omega (arith, c.type_inv.needed k)) start
+    a.needed.now a.words.now a.pos.now a.batch (λ k. omega (arith, c.slice_known-1.given k)) start
     r.new.needed r.new.words r.new.pos r.result (λ k. omega (arith, c.type_inv.needed k)) r.ensures.0 r.ensures.1
     t.new.words t.new.pos t.result t.ensures.0 t.ensures.1 t.ensures.2 t.ensures.3 in
     rw (eq-eqb a.found 0 e) (adding_ends m a.needed.now a.batch _ [] r.new.needed t.new.words t.new.pos t.result refl more)

@@ -22,8 +22,7 @@ use Rattle.needed.proofs.join.join_with.Goals as goal
 
 pub loop-walk-init : goal.loop-walk-init
 loop-walk-init c =
-    let start : tie.Start invariant-loop decreases-loop = c in
-    let m : List ℕ = start.args.m.now in
+    let m : List ℕ = c.args.m.now in
     let a = c.args in
     rw c.start-walk.ensures
     (c.requires.1, refl, refl, refl, refl, refl, refl, λ k. omega (arith, c.type_inv.needed k), joining_batch a.m.now a.needed.now a.words.now a.pos.now a.size _ c.requires.2 c.requires.3 c.requires.6 c.requires.7)
@@ -33,22 +32,11 @@ step-step-requires c = (c.requires.0, c.loop-walk.invariant.0, c.loop-walk-test.
 
 pub loop-walk-preserved-in-Skip : goal.loop-walk-preserved-in-Skip
 loop-walk-preserved-in-Skip c =
-    let start : tie.Start invariant-loop decreases-loop = c in
-    let T : Table = lent start.args.times.now start.args.own.now in
-    let m : List ℕ = start.args.m.now in
-    let s₀ : List ℕ = start.args.needed.now in
-    let whole : List (List ℕ) = foldr insert (ids_in start.args.size s₀) (added_from T m starts) in
-    let b₀ : Batch = record { size = start.args.size; count = 0 } in
-    let at-loop : tie.At-loop invariant-loop decreases-loop = c in
-    let step : Step = c.step-step.result in
-    let count : ℕ = c.in-Ids.count in
-    let place : ℕ = c.in-Ids.at in
-    let part : List (List ℕ) = others (start at-loop).args.own.now step.span (ids_in count (drop place (m at-loop))) in
-    let rest : List (List ℕ) = added_from (T at-loop) (m at-loop) step.next in
-    let next : let l = at-loop.loop in
-    Adding (m at-loop) (s₀ at-loop) (b₀ at-loop) (whole at-loop) (part ++ rest) l.needed l.words l.pos l.batch = let l = at-loop.loop in
-    adding_on (m at-loop) (s₀ at-loop) (b₀ at-loop) (whole at-loop) _ l.needed l.words l.pos l.batch (part ++ rest)
-    (ids-add-next (T at-loop) (m at-loop) l.walk step c.step-step.ensures count place c.in-Ids.is) l.inv.8 in
+    let T : Table = lent c.args.times.now c.args.own.now in
+    let m : List ℕ = c.args.m.now in
+    let s₀ : List ℕ = c.args.needed.now in
+    let whole : List (List ℕ) = foldr insert (ids_in c.args.size s₀) (added_from T m starts) in
+    let b₀ : Batch = record { size = c.args.size; count = 0 } in
     let l = c.loop-walk in
     let t = c.step-step in
     let v = l.invariant in
@@ -67,22 +55,11 @@ loop-walk-preserved-in-Skip c =
 
 pub loop-walk-preserved-in-Fingerprint : goal.loop-walk-preserved-in-Fingerprint
 loop-walk-preserved-in-Fingerprint c =
-    let start : tie.Start invariant-loop decreases-loop = c in
-    let T : Table = lent start.args.times.now start.args.own.now in
-    let m : List ℕ = start.args.m.now in
-    let s₀ : List ℕ = start.args.needed.now in
-    let whole : List (List ℕ) = foldr insert (ids_in start.args.size s₀) (added_from T m starts) in
-    let b₀ : Batch = record { size = start.args.size; count = 0 } in
-    let at-loop : tie.At-loop invariant-loop decreases-loop = c in
-    let step : Step = c.step-step.result in
-    let count : ℕ = c.in-Ids.count in
-    let place : ℕ = c.in-Ids.at in
-    let part : List (List ℕ) = others (start at-loop).args.own.now step.span (ids_in count (drop place (m at-loop))) in
-    let rest : List (List ℕ) = added_from (T at-loop) (m at-loop) step.next in
-    let next : let l = at-loop.loop in
-    Adding (m at-loop) (s₀ at-loop) (b₀ at-loop) (whole at-loop) (part ++ rest) l.needed l.words l.pos l.batch = let l = at-loop.loop in
-    adding_on (m at-loop) (s₀ at-loop) (b₀ at-loop) (whole at-loop) _ l.needed l.words l.pos l.batch (part ++ rest)
-    (ids-add-next (T at-loop) (m at-loop) l.walk step c.step-step.ensures count place c.in-Ids.is) l.inv.8 in
+    let T : Table = lent c.args.times.now c.args.own.now in
+    let m : List ℕ = c.args.m.now in
+    let s₀ : List ℕ = c.args.needed.now in
+    let whole : List (List ℕ) = foldr insert (ids_in c.args.size s₀) (added_from T m starts) in
+    let b₀ : Batch = record { size = c.args.size; count = 0 } in
     let l = c.loop-walk in
     let t = c.step-step in
     let v = l.invariant in
@@ -101,37 +78,34 @@ loop-walk-preserved-in-Fingerprint c =
 
 pub add_list-batch-requires : goal.add_list-batch-requires
 add_list-batch-requires c =
-    let start : tie.Start invariant-loop decreases-loop = c in
-    let T : Table = lent start.args.times.now start.args.own.now in
-    let m : List ℕ = start.args.m.now in
-    let s₀ : List ℕ = start.args.needed.now in
-    let whole : List (List ℕ) = foldr insert (ids_in start.args.size s₀) (added_from T m starts) in
-    let b₀ : Batch = record { size = start.args.size; count = 0 } in
+    let T : Table = lent c.args.times.now c.args.own.now in
+    let m : List ℕ = c.args.m.now in
+    let s₀ : List ℕ = c.args.needed.now in
+    let whole : List (List ℕ) = foldr insert (ids_in c.args.size s₀) (added_from T m starts) in
+    let b₀ : Batch = record { size = c.args.size; count = 0 } in
     let small : Small m = λ k. omega (arith, c.type_inv.m k) in
     let bytes : Bytes m = small_bytes m small in
-    let room : length whole * 32 ≤ length s₀ = rw (needed_is T m (ids_in start.args.size s₀)) at start.pre.4 in
+    let room : length whole * 32 ≤ length s₀ = rw (needed_is T m (ids_in c.args.size s₀)) at c.requires.4 in
     let room-here : length whole * 32 ≤ length c.loop-walk.needed = let n = c.loop-walk.invariant.1 in
     rw n room in
-    let at-loop : tie.At-loop invariant-loop decreases-loop = c in
     let step : Step = c.step-step.result in
     let count : ℕ = c.in-Ids.count in
     let place : ℕ = c.in-Ids.at in
-    let inside : place + count * 32 ≤ length (m at-loop) = ids-inside step.payload (length (m at-loop)) count place c.in-Ids.is c.step-step.ensures.payload in
-    let part : List (List ℕ) = others (start at-loop).args.own.now step.span (ids_in count (drop place (m at-loop))) in
-    let rest : List (List ℕ) = added_from (T at-loop) (m at-loop) step.next in
-    let next : let l = at-loop.loop in
-    Adding (m at-loop) (s₀ at-loop) (b₀ at-loop) (whole at-loop) (part ++ rest) l.needed l.words l.pos l.batch = let l = at-loop.loop in
-    adding_on (m at-loop) (s₀ at-loop) (b₀ at-loop) (whole at-loop) _ l.needed l.words l.pos l.batch (part ++ rest)
-    (ids-add-next (T at-loop) (m at-loop) l.walk step c.step-step.ensures count place c.in-Ids.is) l.inv.8 in
-    let part-sized : All (Sized 32) part = list-sized (start at-loop).args.own.now (step.span.lo * 32) (step.span.hi - step.span.lo) (m at-loop) count place (small at-loop) inside in
-    let rest-sized : All (Sized 32) rest = added_sized (T at-loop) (m at-loop) step.next (bytes at-loop) c.step-step.ensures.next in
-    let k = at-loop in
-    let l = k.loop in
-    let v = l.inv in
-    let s = start k in
-    let own : (step).span.lo * 32 + ((step).span.hi - (step).span.lo) * 32 ≤ length s.args.own.now = (own_room (T k) (step).span s.pre.0 c.step-step.ensures.span).0 in
+    let inside : place + count * 32 ≤ length m = ids-inside step.payload (length m) count place c.in-Ids.is c.step-step.ensures.payload in
+    let part : List (List ℕ) = others c.args.own.now step.span (ids_in count (drop place m)) in
+    let rest : List (List ℕ) = added_from T m step.next in
+    let next : let l = c.loop-walk in
+    Adding m s₀ b₀ whole (part ++ rest) l.needed l.words l.pos l.batch = let l = c.loop-walk in
+    adding_on m s₀ b₀ whole _ l.needed l.words l.pos l.batch (part ++ rest)
+    (ids-add-next T m l.walk step c.step-step.ensures count place c.in-Ids.is) l.invariant.8 in
+    let part-sized : All (Sized 32) part = list-sized c.args.own.now (step.span.lo * 32) (step.span.hi - step.span.lo) m count place small inside in
+    let rest-sized : All (Sized 32) rest = added_sized T m step.next bytes c.step-step.ensures.next in
+    let l = c.loop-walk in
+    let v = l.invariant in
+    let s = c in
+    let own : (step).span.lo * 32 + ((step).span.hi - (step).span.lo) * 32 ≤ length s.args.own.now = (own_room (T) (step).span c.requires.0 c.step-step.ensures.span).0 in
     let ordered = c.step-step.ensures.span.0 in
-    let some = s.pre.5 in
+    let some = c.requires.5 in
     let long = v.3 in
     (
       v.8.batched,
@@ -139,36 +113,33 @@ add_list-batch-requires c =
       ordered,
       omega (arith, ordered),
       inside,
-      room-kept s.args.keys.now s.args.places.now s.args.found.now l.keys l.places l.found s.pre.8 v.4 v.5 v.6,
-      adding_room_part (m k) (s₀ k) (b₀ k) (whole k) (part) (rest) l.needed l.words l.pos l.batch (small k) v.7 (part-sized) (rest-sized) (next) (room-here k),
+      room-kept s.args.keys.now s.args.places.now s.args.found.now l.keys l.places l.found c.requires.8 v.4 v.5 v.6,
+      adding_room_part (m) (s₀) (b₀) (whole) (part) (rest) l.needed l.words l.pos l.batch (small) v.7 (part-sized) (rest-sized) (next) (room-here),
     )
 
 pub loop-walk-preserved : goal.loop-walk-preserved
 loop-walk-preserved c =
-    let start : tie.Start invariant-loop decreases-loop = c in
-    let T : Table = lent start.args.times.now start.args.own.now in
-    let m : List ℕ = start.args.m.now in
-    let s₀ : List ℕ = start.args.needed.now in
-    let whole : List (List ℕ) = foldr insert (ids_in start.args.size s₀) (added_from T m starts) in
-    let b₀ : Batch = record { size = start.args.size; count = 0 } in
+    let T : Table = lent c.args.times.now c.args.own.now in
+    let m : List ℕ = c.args.m.now in
+    let s₀ : List ℕ = c.args.needed.now in
+    let whole : List (List ℕ) = foldr insert (ids_in c.args.size s₀) (added_from T m starts) in
+    let b₀ : Batch = record { size = c.args.size; count = 0 } in
     let small : Small m = λ k. omega (arith, c.type_inv.m k) in
     let bytes : Bytes m = small_bytes m small in
-    let at-loop : tie.At-loop invariant-loop decreases-loop = c in
     let step : Step = c.step-step.result in
     let count : ℕ = c.in-Ids.count in
     let place : ℕ = c.in-Ids.at in
-    let inside : place + count * 32 ≤ length (m at-loop) = ids-inside step.payload (length (m at-loop)) count place c.in-Ids.is c.step-step.ensures.payload in
-    let part : List (List ℕ) = others (start at-loop).args.own.now step.span (ids_in count (drop place (m at-loop))) in
-    let rest : List (List ℕ) = added_from (T at-loop) (m at-loop) step.next in
-    let next : let l = at-loop.loop in
-    Adding (m at-loop) (s₀ at-loop) (b₀ at-loop) (whole at-loop) (part ++ rest) l.needed l.words l.pos l.batch = let l = at-loop.loop in
-    adding_on (m at-loop) (s₀ at-loop) (b₀ at-loop) (whole at-loop) _ l.needed l.words l.pos l.batch (part ++ rest)
-    (ids-add-next (T at-loop) (m at-loop) l.walk step c.step-step.ensures count place c.in-Ids.is) l.inv.8 in
-    let part-sized : All (Sized 32) part = list-sized (start at-loop).args.own.now (step.span.lo * 32) (step.span.hi - step.span.lo) (m at-loop) count place (small at-loop) inside in
-    let rest-sized : All (Sized 32) rest = added_sized (T at-loop) (m at-loop) step.next (bytes at-loop) c.step-step.ensures.next in
-    let k = at-loop in
-    let l = k.loop in
-    let v = l.inv in
+    let inside : place + count * 32 ≤ length m = ids-inside step.payload (length m) count place c.in-Ids.is c.step-step.ensures.payload in
+    let part : List (List ℕ) = others c.args.own.now step.span (ids_in count (drop place m)) in
+    let rest : List (List ℕ) = added_from T m step.next in
+    let next : let l = c.loop-walk in
+    Adding m s₀ b₀ whole (part ++ rest) l.needed l.words l.pos l.batch = let l = c.loop-walk in
+    adding_on m s₀ b₀ whole _ l.needed l.words l.pos l.batch (part ++ rest)
+    (ids-add-next T m l.walk step c.step-step.ensures count place c.in-Ids.is) l.invariant.8 in
+    let part-sized : All (Sized 32) part = list-sized c.args.own.now (step.span.lo * 32) (step.span.hi - step.span.lo) m count place small inside in
+    let rest-sized : All (Sized 32) rest = added_sized T m step.next bytes c.step-step.ensures.next in
+    let l = c.loop-walk in
+    let v = l.invariant in
     let t = c.add_list-batch in
     (
       c.step-step.ensures.next,
@@ -179,22 +150,20 @@ loop-walk-preserved c =
       t.auto.places ∙ v.5,
       t.auto.found ∙ v.6,
       λ i. omega (arith, c.type_inv.needed i),
-      adding_part (m k) (s₀ k) (b₀ k) (whole k) (part) (rest) l.needed l.words l.pos l.batch (small k) v.7 (part-sized) (rest-sized) (next)
+      adding_part (m) (s₀) (b₀) (whole) (part) (rest) l.needed l.words l.pos l.batch (small) v.7 (part-sized) (rest-sized) (next)
           t.new.needed t.new.words t.new.pos t.result t.ensures,
     )
 
 pub flush-requires : goal.flush-requires
 flush-requires c =
-    let start : tie.Start invariant-loop decreases-loop = c in
-    let T : Table = lent start.args.times.now start.args.own.now in
-    let m : List ℕ = start.args.m.now in
-    let s₀ : List ℕ = start.args.needed.now in
-    let whole : List (List ℕ) = foldr insert (ids_in start.args.size s₀) (added_from T m starts) in
-    let b₀ : Batch = record { size = start.args.size; count = 0 } in
-    let room : length whole * 32 ≤ length s₀ = rw (needed_is T m (ids_in start.args.size s₀)) at start.pre.4 in
+    let T : Table = lent c.args.times.now c.args.own.now in
+    let m : List ℕ = c.args.m.now in
+    let s₀ : List ℕ = c.args.needed.now in
+    let whole : List (List ℕ) = foldr insert (ids_in c.args.size s₀) (added_from T m starts) in
+    let b₀ : Batch = record { size = c.args.size; count = 0 } in
+    let room : length whole * 32 ≤ length s₀ = rw (needed_is T m (ids_in c.args.size s₀)) at c.requires.4 in
     let room-here : length whole * 32 ≤ length c.loop-walk.needed = let n = c.loop-walk.invariant.1 in
     rw n room in
-    let count : ℕ = c.in-Ids.count in
     let ended : length (m) ≤ c.loop-walk.walk.cursor.at → let l = c.loop-walk in Adding (m) (s₀) (b₀) (whole) [] l.needed l.words l.pos l.batch = λ h. let l = c.loop-walk in
     adding_on (m) (s₀) (b₀) (whole) _ l.needed l.words l.pos l.batch [] (added_ends (T) (m) l.walk h) l.invariant.8 in
     let l = c.loop-walk in
@@ -202,98 +171,39 @@ flush-requires c =
 
 pub returns : goal.returns
 returns c =
-    let start : tie.Start invariant-loop decreases-loop = c in
-    let T : Table = lent start.args.times.now start.args.own.now in
-    let m : List ℕ = start.args.m.now in
-    let s₀ : List ℕ = start.args.needed.now in
-    let whole : List (List ℕ) = foldr insert (ids_in start.args.size s₀) (added_from T m starts) in
-    let b₀ : Batch = record { size = start.args.size; count = 0 } in
+    let T : Table = lent c.args.times.now c.args.own.now in
+    let m : List ℕ = c.args.m.now in
+    let s₀ : List ℕ = c.args.needed.now in
+    let whole : List (List ℕ) = foldr insert (ids_in c.args.size s₀) (added_from T m starts) in
+    let b₀ : Batch = record { size = c.args.size; count = 0 } in
     let small : Small m = λ k. omega (arith, c.type_inv.m k) in
-    let count : ℕ = c.in-Ids.count in
     let ended : length (m) ≤ c.loop-walk.walk.cursor.at → let l = c.loop-walk in Adding (m) (s₀) (b₀) (whole) [] l.needed l.words l.pos l.batch = λ h. let l = c.loop-walk in
     adding_on (m) (s₀) (b₀) (whole) _ l.needed l.words l.pos l.batch [] (added_ends (T) (m) l.walk h) l.invariant.8 in
     let l = c.loop-walk in
     let f = c.flush in
-    rw (needed_is (T) (m) (ids_in (start).args.size (s₀)))
-    (batch-joined (m) (s₀) (b₀) (whole) l.needed l.words l.pos l.batch (small) l.invariant.7 (ended c.loop-walk-test.false) f.new.needed f.result f.ensures.0 f.ensures.1)
+    let list = batch-joined (m) (s₀) (b₀) (whole) l.needed l.words l.pos l.batch (small) l.invariant.7 (ended c.loop-walk-test.false) f.new.needed f.result f.ensures.0 f.ensures.1 in
+    rw (needed_is (T) (m) (ids_in c.args.size (s₀))) (record { value = list.0; needed_after = list.1 })
 
 pub loop-walk-smaller-in-Skip : goal.loop-walk-smaller-in-Skip
 loop-walk-smaller-in-Skip c =
-    let start : tie.Start invariant-loop decreases-loop = c in
-    let T : Table = lent start.args.times.now start.args.own.now in
-    let m : List ℕ = start.args.m.now in
-    let s₀ : List ℕ = start.args.needed.now in
-    let whole : List (List ℕ) = foldr insert (ids_in start.args.size s₀) (added_from T m starts) in
-    let b₀ : Batch = record { size = start.args.size; count = 0 } in
-    let moves : let m = c.args.m.now in
-    length m - c.step-step.result.next.cursor.at < length m - c.loop-walk.walk.cursor.at = let t = c.step-step.ensures in
+    let t = c.step-step.ensures in
     let h = t.moved in
     let i = t.inside in
-    omega arith in
-    let at-loop : tie.At-loop invariant-loop decreases-loop = c in
-    let step : Step = c.step-step.result in
-    let count : ℕ = c.in-Ids.count in
-    let place : ℕ = c.in-Ids.at in
-    let inside : place + count * 32 ≤ length (m at-loop) = ids-inside step.payload (length (m at-loop)) count place c.in-Ids.is c.step-step.ensures.payload in
-    let part : List (List ℕ) = others (start at-loop).args.own.now step.span (ids_in count (drop place (m at-loop))) in
-    let rest : List (List ℕ) = added_from (T at-loop) (m at-loop) step.next in
-    let next : let l = at-loop.loop in
-    Adding (m at-loop) (s₀ at-loop) (b₀ at-loop) (whole at-loop) (part ++ rest) l.needed l.words l.pos l.batch = let l = at-loop.loop in
-    adding_on (m at-loop) (s₀ at-loop) (b₀ at-loop) (whole at-loop) _ l.needed l.words l.pos l.batch (part ++ rest)
-    (ids-add-next (T at-loop) (m at-loop) l.walk step c.step-step.ensures count place c.in-Ids.is) l.inv.8 in
-    moves
+    omega arith
 
 pub loop-walk-smaller-in-Fingerprint : goal.loop-walk-smaller-in-Fingerprint
 loop-walk-smaller-in-Fingerprint c =
-    let start : tie.Start invariant-loop decreases-loop = c in
-    let T : Table = lent start.args.times.now start.args.own.now in
-    let m : List ℕ = start.args.m.now in
-    let s₀ : List ℕ = start.args.needed.now in
-    let whole : List (List ℕ) = foldr insert (ids_in start.args.size s₀) (added_from T m starts) in
-    let b₀ : Batch = record { size = start.args.size; count = 0 } in
-    let moves : let m = c.args.m.now in
-    length m - c.step-step.result.next.cursor.at < length m - c.loop-walk.walk.cursor.at = let t = c.step-step.ensures in
+    let t = c.step-step.ensures in
     let h = t.moved in
     let i = t.inside in
-    omega arith in
-    let at-loop : tie.At-loop invariant-loop decreases-loop = c in
-    let step : Step = c.step-step.result in
-    let count : ℕ = c.in-Ids.count in
-    let place : ℕ = c.in-Ids.at in
-    let inside : place + count * 32 ≤ length (m at-loop) = ids-inside step.payload (length (m at-loop)) count place c.in-Ids.is c.step-step.ensures.payload in
-    let part : List (List ℕ) = others (start at-loop).args.own.now step.span (ids_in count (drop place (m at-loop))) in
-    let rest : List (List ℕ) = added_from (T at-loop) (m at-loop) step.next in
-    let next : let l = at-loop.loop in
-    Adding (m at-loop) (s₀ at-loop) (b₀ at-loop) (whole at-loop) (part ++ rest) l.needed l.words l.pos l.batch = let l = at-loop.loop in
-    adding_on (m at-loop) (s₀ at-loop) (b₀ at-loop) (whole at-loop) _ l.needed l.words l.pos l.batch (part ++ rest)
-    (ids-add-next (T at-loop) (m at-loop) l.walk step c.step-step.ensures count place c.in-Ids.is) l.inv.8 in
-    moves
+    omega arith
 
 pub loop-walk-smaller : goal.loop-walk-smaller
 loop-walk-smaller c =
-    let start : tie.Start invariant-loop decreases-loop = c in
-    let T : Table = lent start.args.times.now start.args.own.now in
-    let m : List ℕ = start.args.m.now in
-    let s₀ : List ℕ = start.args.needed.now in
-    let whole : List (List ℕ) = foldr insert (ids_in start.args.size s₀) (added_from T m starts) in
-    let b₀ : Batch = record { size = start.args.size; count = 0 } in
-    let moves : let m = c.args.m.now in
-    length m - c.step-step.result.next.cursor.at < length m - c.loop-walk.walk.cursor.at = let t = c.step-step.ensures in
+    let t = c.step-step.ensures in
     let h = t.moved in
     let i = t.inside in
-    omega arith in
-    let at-loop : tie.At-loop invariant-loop decreases-loop = c in
-    let step : Step = c.step-step.result in
-    let count : ℕ = c.in-Ids.count in
-    let place : ℕ = c.in-Ids.at in
-    let inside : place + count * 32 ≤ length (m at-loop) = ids-inside step.payload (length (m at-loop)) count place c.in-Ids.is c.step-step.ensures.payload in
-    let part : List (List ℕ) = others (start at-loop).args.own.now step.span (ids_in count (drop place (m at-loop))) in
-    let rest : List (List ℕ) = added_from (T at-loop) (m at-loop) step.next in
-    let next : let l = at-loop.loop in
-    Adding (m at-loop) (s₀ at-loop) (b₀ at-loop) (whole at-loop) (part ++ rest) l.needed l.words l.pos l.batch = let l = at-loop.loop in
-    adding_on (m at-loop) (s₀ at-loop) (b₀ at-loop) (whole at-loop) _ l.needed l.words l.pos l.batch (part ++ rest)
-    (ids-add-next (T at-loop) (m at-loop) l.walk step c.step-step.ensures count place c.in-Ids.is) l.inv.8 in
-    moves
+    omega arith
 
 pub shape_of-needed : goal.shape_of-needed
 shape_of-needed c = c.flush.auto.needed ∙ c.loop-walk.invariant.1

@@ -4,6 +4,7 @@ use mathlib.Core.Path.{◌≡◌, sym, ap, ◌∙◌}
 use native.Mathlib.Omega.{arith}
 use lib.ListN.{get_or, set}
 use lib.Seq.{set-get_or}
+use borrow.Author.Rules.{rules}
 use Rattle.removal.specs.Removing.{bits_in}
 use Rattle.removal.proofs.Bitwise.{bit_fits, power_fits, byte_bit, byte_set}
 use Rattle.removal.proofs.bits.set_bit.Goals as goal
@@ -22,7 +23,7 @@ overflow_add-marks c =
     omega arith in
     let a = c.args in
     let e = power_fits (a.k % 8) (omega arith) in
-    omega (arith, bit_fits 8 (a.k % 8) (get_or a.marks.now (a.k / 8) 0) (omega arith) (?) (zero_bit))
+    omega (arith, bit_fits 8 (a.k % 8) (get_or a.marks.now (a.k / 8) 0) (omega arith) (search rules) (zero_bit))
 
 pub returns : goal.returns
 returns c =

@@ -1,5 +1,4 @@
 -- `marks::clear` meets its contract. The invariant: the marks before the place are 0.
-use Prim.Native.Nat.{◌-◌}
 use mathlib.Core.Path.{refl, sym, ◌∙◌}
 use native.Mathlib.Omega.{arith}
 use lib.ListN.{length-set}

@@ -25,16 +25,16 @@ loop-i-preserved c =
     let here : a.lo + l.i - a.lo ≡ l.i = omega arith in
     let next : a.lo + (l.i + 1) ≡ a.lo + l.i + 1 = omega arith in
     elim c.if-found-i-eq0.branch [
-      then-found-i-eq0 w ↦
-        let e : c.if-found-i-eq0.marks ≡ set l.marks (a.lo + l.i) 1 = w.marks-is in
-        let zero : get_or a.found.now l.i 0 ≡ 0 = w.if-found-i-eq0.true in
-        let more = set-one t a.lo (a.lo + l.i) a.marks.now l.marks (omega arith) (omega arith) (rw here (eq-eqb _ _ zero)) l.invariant.2 in
-        rw (e, next) (length-set l.marks (a.lo + l.i) 1 ∙ g, omega arith, more)
-    | else-found-i-eq0 w ↦
-        let e : c.if-found-i-eq0.marks ≡ l.marks = w.marks-is in
-        let other : get_or a.found.now l.i 0 ≡ 0 → ⊥ = w.if-found-i-eq0.false in
-        let more = set_other t a.lo (a.lo + l.i) a.marks.now l.marks (rw here (ne_eqb _ _ other)) l.invariant.2 in
-        rw (e, next) (g, omega arith, more)
+      | then-found-i-eq0 w ↦
+          let e : c.if-found-i-eq0.marks ≡ set l.marks (a.lo + l.i) 1 = w.marks-is in
+          let zero : get_or a.found.now l.i 0 ≡ 0 = w.if-found-i-eq0.true in
+          let more = set-one t a.lo (a.lo + l.i) a.marks.now l.marks (omega arith) (omega arith) (rw here (eq-eqb _ _ zero)) l.invariant.2 in
+          rw (e, next) (length-set l.marks (a.lo + l.i) 1 ∙ g, omega arith, more)
+      | else-found-i-eq0 w ↦
+          let e : c.if-found-i-eq0.marks ≡ l.marks = w.marks-is in
+          let other : get_or a.found.now l.i 0 ≡ 0 → ⊥ = w.if-found-i-eq0.false in
+          let more = set_other t a.lo (a.lo + l.i) a.marks.now l.marks (rw here (ne_eqb _ _ other)) l.invariant.2 in
+          rw (e, next) (g, omega arith, more)
     ]
 
 pub bounds-marks-lo : goal.bounds-marks-lo

@@ -139,8 +139,7 @@ loop-j-preserved c =
     let g = ranges in
     let p = part in
     let t : ℕ → Bool = missing a.own.now (ids_in a.count a.list.now) in
-    let u : ℕ → Bool = λ k. eqb (get_or found (k - l.j) 0) 0 in
-    (
+    let u : ℕ → Bool = λ k. eqb (get_or found (k - l.j) 0) 0 in (
       omega arith,
       omega arith,
       c.mark_missing.auto.marks ∙ l.invariant.2,

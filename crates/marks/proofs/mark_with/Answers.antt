@@ -1,5 +1,4 @@
 -- `marks::mark_with` meets its contract. The invariant: what the ranges that are left set on the marks is what all ranges set on the marks as they were.
-use Prim.Native.Nat.{◌-◌}
 use mathlib.Core.Path.{refl, sym, ◌∙◌}
 use native.Mathlib.Omega.{arith}
 use Rattle.table.specs.Code.{lent}
@@ -34,8 +33,7 @@ loop-walk-preserved c =
     let table : Table = lent c.args.times.now c.args.own.now in
     let t = c.step-step in
     let l = c.loop-walk in
-    let r = c.mark_range in
-    (
+    let r = c.mark_range in (
       marked_more (table) c.args.m.now _ l.walk l.marks l.invariant.0 t.result t.ensures _ r.auto.marks (r.ensures _ t.ensures.from t.ensures.to),
       r.auto.words ∙ l.invariant.1,
       r.auto.pos ∙ l.invariant.2,

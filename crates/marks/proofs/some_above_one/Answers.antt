@@ -1,5 +1,4 @@
 -- `marks::some_above_one` meets its contract. The invariant: the marks that are left decide.
-use Prim.Native.Nat.{◌-◌}
 use mathlib.Core.Path.{refl, sym, ◌∙◌}
 use native.Mathlib.Omega.{arith}
 use lib.Dec.{ltb}

@@ -1,5 +1,5 @@
 -- `removal::keep_unmarked` meets its contract. The invariant: k ids of the window are passed, `Keeping`.
-use Prim.Native.Nat.{◌+◌, ◌-◌, ◌≤◌}
+use Prim.Native.Nat.{◌+◌, ◌≤◌}
 use mathlib.Core.Path.{◌≡◌, sym, ◌∙◌}
 use native.Mathlib.Omega.{arith}
 use lib.ListN.{length}
@@ -62,14 +62,18 @@ loop-k-preserved c =
     let a = c.args in
     let l = c.loop-k in
     elim c.if-bit-eq0.branch [
-      then-bit-eq0 w ↦
-        rw w.kept-is
-        (small, keeping_keeps a.list.now a.kept a.lo a.count (bits_in a.marks.now) (small) c.requires.0 c.requires.1 (enough) l.list l.kept l.k l.invariant.1 (omega arith)
-        (sym c.bit.ensures ∙ w.if-bit-eq0.true) c.if-bit-eq0.list (w.list-is ∙ w.copy_id.ensures))
-    | else-bit-eq0 w ↦
-        rw (w.list-is, w.kept-is)
-        (small, keeping_passes a.list.now a.kept a.lo a.count (bits_in a.marks.now) (small) c.requires.0 c.requires.1 (enough) l.list l.kept l.k l.invariant.1 (omega arith)
-        (λ z. w.if-bit-eq0.false (c.bit.ensures ∙ z)))
+      | then-bit-eq0 w ↦
+          rw w.kept-is (
+            small,
+            keeping_keeps a.list.now a.kept a.lo a.count (bits_in a.marks.now) (small) c.requires.0 c.requires.1 (enough) l.list l.kept l.k l.invariant.1 (omega arith)
+                (sym c.bit.ensures ∙ w.if-bit-eq0.true) c.if-bit-eq0.list (w.list-is ∙ w.copy_id.ensures),
+          )
+      | else-bit-eq0 w ↦
+          rw (w.list-is, w.kept-is) (
+            small,
+            keeping_passes a.list.now a.kept a.lo a.count (bits_in a.marks.now) (small) c.requires.0 c.requires.1 (enough) l.list l.kept l.k l.invariant.1 (omega arith)
+                (λ z. w.if-bit-eq0.false (c.bit.ensures ∙ z)),
+          )
     ]
 
 pub shape_of-list : goal.shape_of-list

@@ -21,8 +21,7 @@ survey_block-block-requires c =
     let a = c.args in
     let l = c.loop-lo in
     let n = c.fitting-count in
-    let fits = n.ensures.0 in
-    (
+    let fits = n.ensures.0 in (
       omega (arith, rest-length (l.lo * 32) a.list.now),
       c.requires.1,
       n.ensures.1,

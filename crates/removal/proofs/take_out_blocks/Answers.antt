@@ -24,8 +24,7 @@ keep_in_block-kept-requires c =
     let h = l.invariant.3.long in
     let us = ids_in a.m a.ids.now in
     let fits = n.ensures.0 in
-    let inside : l.lo * 32 ≤ length a.list.now = omega (arith, l.invariant.2, c.requires.0) in
-    (
+    let inside : l.lo * 32 ≤ length a.list.now = omega (arith, l.invariant.2, c.requires.0) in (
       taking-few us a.list.now (small) l.list l.kept l.lo l.invariant.3 inside,
       omega (arith, h, c.requires.0),
       c.requires.1,
@@ -49,8 +48,7 @@ loop-lo-preserved c =
     let l = c.loop-lo in
     let n = c.fitting-count in
     let k = c.keep_in_block-kept in
-    let fits = n.ensures.0 in
-    (
+    let fits = n.ensures.0 in (
       k.auto.ends ∙ l.invariant.0,
       k.auto.marks ∙ l.invariant.1,
       omega arith,

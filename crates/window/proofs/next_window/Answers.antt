@@ -38,8 +38,7 @@ distinct-distinct-requires c =
     let s = c.sort in
     let h = fits in
     let l = s.ensures.0.long in
-    let w = s.auto.words in
-    (
+    let w = s.auto.words in (
       omega (arith, l, h.1),
       pointing_kept c.args.m.now (places) s.new.pos c.gather-count.result s.ensures.0 c.gather-count.ensures.points,
       s.ensures.1,
@@ -53,8 +52,7 @@ returns c =
     let places : List ℕ = c.gather-count.new.pos in
     let a = c.args in
     let s = c.sort in
-    let d = c.distinct-distinct in
-    (
+    let d = c.distinct-distinct in (
       window_made a.m.now (added_from (lent a.times.now a.own.now) a.m.now starts) (limits a.interval a.m.now) (words) (places) c.gather-count.result
           c.gather-count.ensures s.new.pos s.ensures.0 d.new.pos d.result d.ensures.0,
       d.ensures.1,

@@ -1,5 +1,4 @@
 -- `removal::bits::count_bits` meets its contract. The invariant: the sum and the ones that are left make the whole.
-use Prim.Native.Nat.{◌-◌}
 use mathlib.Core.Path.{◌≡◌, sym, ◌∙◌}
 use native.Mathlib.Omega.{arith}
 use lib.ListN.{length, get_or}
@@ -23,8 +22,8 @@ loop-k-preserved c =
     let n = long in
     let read : c.bit.result ≡ get_or m l.k 0 = c.bit.ensures ∙ sym (get_or-take a.count (bits_in a.marks.now) l.k 0 (omega arith)) in
     elim c.if-bit-eq1.branch [
-      then-bit-eq1 w ↦ let e = ones-one m l.k (omega arith) (sym read ∙ w.if-bit-eq1.true) in let s = w.sum-is in (omega arith, omega arith, omega arith)
-    | else-bit-eq1 w ↦ let e = ones-other m l.k (omega arith) (λ z. w.if-bit-eq1.false (read ∙ z)) in let s = w.sum-is in (omega arith, omega arith, omega arith)
+      | then-bit-eq1 w ↦ let e = ones-one m l.k (omega arith) (sym read ∙ w.if-bit-eq1.true) in let s = w.sum-is in (omega arith, omega arith, omega arith)
+      | else-bit-eq1 w ↦ let e = ones-other m l.k (omega arith) (λ z. w.if-bit-eq1.false (read ∙ z)) in let s = w.sum-is in (omega arith, omega arith, omega arith)
     ]
 
 pub returns : goal.returns

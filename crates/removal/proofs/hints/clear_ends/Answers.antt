@@ -1,5 +1,4 @@
 -- `removal::hints::clear_ends` keeps the length.
-use Prim.Native.Nat.{◌-◌}
 use native.Mathlib.Omega.{arith}
 use lib.ListN.{length-set}
 use Rattle.removal.proofs.hints.clear_ends.Goals as goal

@@ -22,8 +22,7 @@ mark_window-found-requires c =
     let l = c.loop-lo in
     let n = c.fitting-n in
     let fits = n.ensures.0 in
-    let whole = l.invariant.2.whole (omega (arith, c.loop-lo-test.true)) in
-    (
+    let whole = l.invariant.2.whole (omega (arith, c.loop-lo-test.true)) in (
       some_fit n.result (a.count - l.lo) (length l.ends) n.ensures.2 (omega arith) (omega (arith, l.invariant.0, c.requires.4)),
       omega (arith, rest-length (l.lo * 32) a.list.now),
       c.requires.1,
@@ -60,8 +59,7 @@ loop-lo-preserved c =
     marking_goes (ids_in a.m a.ids.now) a.list.now a.count l.marks l.found l.lo l.invariant.2 (omega arith) c.requires.3 (omega (arith, l.invariant.1, c.requires.2))
     n.result (length l.ends) n.ensures.0 n.ensures.2 w.result w.new.marks w.ensures.value w.ensures.marks_after in
     let l = c.loop-lo in
-    let w = c.mark_window-found in
-    (
+    let w = c.mark_window-found in (
       w.auto.ends ∙ l.invariant.0,
       joined_length (l.lo / 8) l.marks w.new.marks (inside) w.auto.marks ∙ l.invariant.1,
       marking,

@@ -57,10 +57,10 @@ loop-j-preserved c =
     let told = rw (rest_is (l.j * 32) a.ids.now) at t.ensures.value in
     let marked = rw (rest_is (l.j * 32) a.ids.now) at (t.ensures.by_index (ids_in l.j a.ids.now) l.invariant.2.marked) in
     let now : Found ds a.ids.now after a.count c.if-mark_one.found (l.j + 1) =
-      elim c.if-mark_one.branch [
-        then-mark_one w ↦ rw w.found-is (found-one ds a.ids.now a.count (bits_in l.marks) l.found l.j l.invariant.2 after (sym told ∙ w.if-mark_one.true) marked)
+    elim c.if-mark_one.branch [
+      | then-mark_one w ↦ rw w.found-is (found-one ds a.ids.now a.count (bits_in l.marks) l.found l.j l.invariant.2 after (sym told ∙ w.if-mark_one.true) marked)
       | else-mark_one w ↦ rw w.found-is (found-other ds a.ids.now a.count (bits_in l.marks) l.found l.j l.invariant.2 after (sym told ∙ w.if-mark_one.false) marked)
-      ] in
+    ] in
     (e.1, t.auto.marks ∙ l.invariant.1, past after c.if-mark_one.found (l.j + 1) c.next_inside-j-in-loop-j.result e.0 e.2 now)
 
 pub returns : goal.returns

@@ -11,8 +11,7 @@ use Rattle.removal.proofs.marking.mark_window.Goals as goal
 pub mark_inside-requires : goal.mark_inside-requires
 mark_inside-requires c =
     let a = c.args in
-    let k = c.clear in
-    (
+    let k = c.clear in (
       c.requires.0,
       c.requires.1,
       c.requires.2,

@@ -1,5 +1,4 @@
 -- `window::ceiling::offer_list` meets its contract. The invariant: whole ids within the limits stand at the places so far.
-use Prim.Native.Nat.{◌-◌}
 use mathlib.Core.Path.{refl, ◌∙◌}
 use native.Mathlib.Omega.{arith}
 use Rattle.window.proofs.ceiling.offer_list.Goals as goal

@@ -30,8 +30,7 @@ loop-walk-preserved-in-Skip c =
     let table : Table = lent c.args.times.now c.args.own.now in
     let l = c.loop-walk in
     let t = c.step-step in
-    let v = l.invariant in
-    (
+    let v = l.invariant in (
       t.ensures.next,
       v.1,
       v.2,
@@ -50,8 +49,7 @@ loop-walk-preserved-in-Fingerprint c =
     let table : Table = lent c.args.times.now c.args.own.now in
     let l = c.loop-walk in
     let t = c.step-step in
-    let v = l.invariant in
-    (
+    let v = l.invariant in (
       t.ensures.next,
       v.1,
       v.2,
@@ -78,8 +76,7 @@ gather_list-n-requires c =
     let t = c.step-step in
     let span = t.result.span in
     let inside = t.ensures.span in
-    let fits : span.lo * 32 + (span.hi - span.lo) * 32 ≤ length c.args.own.now = (own_room (table) span c.requires.0 inside).0 in
-    (
+    let fits : span.lo * 32 + (span.hi - span.lo) * 32 ≤ length c.args.own.now = (own_room (table) span c.requires.0 inside).0 in (
       inside.0,
       omega (arith, inside.0),
       ids-inside t.result.payload (length c.args.m.now) _ _ c.in-Ids.is t.ensures.payload,
@@ -97,8 +94,7 @@ loop-walk-preserved c =
     let l = c.loop-walk in
     let t = c.step-step in
     let v = l.invariant in
-    let call = c.gather_list-n in
-    (
+    let call = c.gather_list-n in (
       t.ensures.next,
       call.auto.words ∙ v.1,
       call.auto.pos ∙ v.2,

@@ -1,5 +1,4 @@
 -- `window::select::gather_list` meets its contract. The invariant: the ids before the i-th that are wanted have been offered.
-use Prim.Native.Nat.{◌-◌}
 use mathlib.Core.Path.{refl, ◌∙◌}
 use mathlib.Core.List.{◌++◌}
 use native.Mathlib.Omega.{arith}
@@ -34,8 +33,7 @@ offer_others-n-requires c =
     picking_kept a.ids.now a.picks.now a.found.now c.loop-i.ids c.loop-i.picks c.loop-i.found c.requires.8 v.6 v.7 v.5 in
     let l = c.loop-i in
     let v = l.invariant in
-    let p = c.pick-p in
-    (
+    let p = c.pick-p in (
       c.requires.0,
       c.requires.1,
       p.ensures.2,
@@ -59,8 +57,7 @@ loop-i-preserved c =
     let v = l.invariant in
     let p = c.pick-p in
     let u = c.offer_others-n in
-    let o = owns a.own.now a.span in
-    (
+    let o = owns a.own.now a.span in (
       p.ensures.1,
       u.auto.words ∙ v.1,
       u.auto.pos ∙ v.2,

@@ -15,8 +15,7 @@ sift-requires c =
     let a = c.args in
     let p = c.requires in
     let w = c.word-v in
-    let e = full in
-    (
+    let e = full in (
       omega arith,
       simp length-set (omega arith),
       omega arith,
@@ -49,8 +48,7 @@ build-requires c =
     let p = c.requires in
     let w = c.word-v in
     let e : a.n + 1 ≡ 11008 = c.if-more-eq11008.true in
-    let h : a.n < 11008 = c.if-n-ge11008.false in
-    (
+    let h : a.n < 11008 = c.if-n-ge11008.false in (
       simp length-set (omega arith),
       omega arith,
       rw e at (last-points a.m.now a.words.now a.pos.now a.n a.p w.result p.1 p.2 p.3 p.0 w.ensures h),

@@ -21,8 +21,7 @@ contains_each-requires c =
     let at = a.span.lo * 32 in
     let k = c.requires.2.few in
     let p = c.requires.8 in
-    let room = c.requires.7 in
-    (
+    let room = c.requires.7 in (
       rw (part-from a.own.now at, length-drop at a.own.now) (omega (arith, c.requires.0, c.requires.1)),
       omega (arith, k, p.wide),
       omega (arith, k, p.noted),
@@ -42,8 +41,7 @@ returns c =
     let owns : List (List ℕ) = ids_in (c.args.span.hi - c.args.span.lo) (drop (c.args.span.lo * 32) c.args.own.now) in
     let a = c.args in
     let o = c.offer_picked in
-    let e = c.contains_each in
-    (
+    let e = c.contains_each in (
       o.ensures.0,
       λ all rest g. o.ensures.1 (owns) all rest
           (found-told a.own.now a.m.now a.ids.now a.picks.now (a.span.lo * 32) (a.span.hi - a.span.lo) a.count e.new.found c.requires.2 e.ensures) g,

@@ -1,5 +1,5 @@
 -- `window::select::offer_picked` meets its contract. The invariant: the ids from place number k on have been offered.
-use Prim.Native.Nat.{◌+◌, ◌-◌, ◌*◌, ◌^◌, ◌≤◌, ◌<◌}
+use Prim.Native.Nat.{◌-◌, ◌*◌, ◌^◌, ◌≤◌, ◌<◌}
 use mathlib.Core.Path.{refl, ◌∙◌}
 use mathlib.Core.List.{◌++◌}
 use native.Mathlib.Omega.{arith}
@@ -34,8 +34,7 @@ loop-k-preserved c =
     let l = c.loop-k in
     let v = l.invariant in
     let t = turn in
-    let u = c.offer_unless-n in
-    (
+    let u = c.offer_unless-n in (
       omega arith,
       u.auto.words ∙ v.1,
       u.auto.pos ∙ v.2,

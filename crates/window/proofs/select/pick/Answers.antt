@@ -1,5 +1,5 @@
 -- `window::select::pick` meets its contract. The invariant: of the ids before the next, those that were wanted are picked.
-use Prim.Native.Nat.{◌+◌, ◌-◌, ◌*◌, ◌^◌, ◌≤◌, ◌<◌}
+use Prim.Native.Nat.{◌+◌, ◌*◌, ◌^◌, ◌≤◌, ◌<◌}
 use mathlib.Core.Path.{refl, ◌∙◌}
 use mathlib.Core.List.{◌++◌}
 use native.Mathlib.Nat.{le_refl}
@@ -11,8 +11,7 @@ use Rattle.window.proofs.select.pick.Goals as goal
 
 pub loop-next-init : goal.loop-next-init
 loop-next-init c =
-    let a = c.args in
-    (
+    let a = c.args in (
       le_refl a.start,
       omega (arith, c.requires.1),
       omega arith,
@@ -45,8 +44,7 @@ loop-next-preserved c =
     let l = c.loop-next in
     let v = l.invariant in
     let t = turn in
-    let u = c.pick_id-k in
-    (
+    let u = c.pick_id-k in (
       omega (arith, v.0),
       omega arith,
       omega (arith, v.2, u.ensures.0),

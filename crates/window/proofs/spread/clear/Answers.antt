@@ -1,5 +1,4 @@
 -- `window::spread::clear` meets its contract. The invariant: the slice keeps its length.
-use Prim.Native.Nat.{◌-◌}
 use mathlib.Core.Path.{◌∙◌}
 use native.Mathlib.Omega.{arith}
 use lib.ListN.{length-set}

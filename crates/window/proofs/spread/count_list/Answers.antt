@@ -1,5 +1,4 @@
 -- `window::spread::count_list` meets its contract. The invariant: the slice keeps its length.
-use Prim.Native.Nat.{◌-◌}
 use mathlib.Core.Path.{◌∙◌}
 use Rattle.window.proofs.spread.count_list.Goals as goal
 

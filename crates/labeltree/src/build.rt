@@ -38,6 +38,7 @@ fn store_places(ids: &[u8], places: usize, tree: &mut [u8])
 }
 
 // Makes label `at` and all labels below it afresh, each from its two halves, down to the places, `level` levels below it.
+#[tactic(auto, using(tree::proofs::Building::renewed_pair))]
 fn sum_halves(tree: &mut [u8], level: usize, at: usize)
     requires { 40 * ((at + 2) * 2 ^ level) ≤ length tree.old + 40 }
     ensures { tree.new ≡ renew_below level at tree.old }

@@ -65,6 +65,7 @@ fn both(left: Found, right: Found) -> Found
 }
 
 // Visits label `at`, that of the `size` places from `first` on, 2 to the power `level`.
+#[tactic(auto, using(crate::proofs::Visits::place_visited))]
 fn visit_half(
     tree: &[u8],
     from: usize,

@@ -1,26 +1,23 @@
 -- `labeltree::build::sum_halves` meets its contract.
 use Rattle.std.proofs.Common.{◌+◌, ◌-◌, ◌*◌, ◌^◌, ◌≤◌, ℕ, length, sym, subst, ◌∙◌, arith}
-use Rattle.tree.proofs.Building.{renew-room, renew-left, renew_right, renewed_last, renewed_pair, renewed_halves}
+use Rattle.tree.proofs.Building.{renew-room, renew-left, renew_right, renewed_last, renewed_halves}
 use Rattle.labeltree.proofs.build.+sum_halves.Goals as goal
 
 pub returns-then-level-eq0 : goal.returns-then-level-eq0
 returns-then-level-eq0 t c = renewed_last c.args.level c.args.at c.args.tree.now c.if-level-eq0.true
 
-pub returns-then-level-eq1 : goal.returns-then-level-eq1
-returns-then-level-eq1 t c = renewed_pair c.args.level c.args.at c.args.tree.now c.renew.new.tree c.if-level-eq1.true c.renew.ensures
-
 -- the left half
 pub sum_halves-requires : goal.sum_halves-requires
 sum_halves-requires t c =
     let a = c.args in
-    (omega (arith, c.decreases, c.if-level-eq0.false), renew-left (length a.tree.now) a.level a.at c.if-level-eq0.false c.requires)
+    (omega (arith, c.decreases), renew-left (length a.tree.now) a.level a.at c.if-level-eq0.false c.requires)
 
 -- the right half
 pub sum_halves-requires-2 : goal.sum_halves-requires-2
 sum_halves-requires-2 t c =
     let a = c.args in
     (
-      omega (arith, c.decreases, c.if-level-eq0.false),
+      omega (arith, c.decreases),
       subst (λ (n : ℕ). 40 * ((2 * a.at + 2 + 2) * 2 ^ (a.level - 1)) ≤ n + 40) (sym c.sum_halves.auto.tree) (renew_right (length a.tree.now) a.level a.at c.if-level-eq0.false c.requires),
     )
 

@@ -2,7 +2,7 @@
 use Rattle.std.proofs.Common.{◌+◌, ◌-◌, ◌*◌, ◌/◌, length, sym, ◌∙◌, arith}
 use Rattle.label.specs.Code.{label_in}
 use Rattle.tree.proofs.Places.{empty-label}
-use Rattle.tree.proofs.Halves.{reach_room, reach_end, reach_visits, reach_left, reach_right, found-outside, found_inside, found-place, found_halves, found-few}
+use Rattle.tree.proofs.Halves.{reach_room, reach_end, reach_visits, reach_left, reach_right, found-outside, found_inside, found_halves, found-few}
 use Rattle.labeltree.specs.Code.{found_in}
 use Rattle.labeltree.proofs.run.+visit_half.Goals as goal
 
@@ -10,11 +10,6 @@ pub returns-then-is_outside : goal.returns-then-is_outside
 returns-then-is_outside t c =
     let a = c.args in
     found-outside a.tree.now a.from a.to a.level a.size a.at a.first c.requires.sized _ empty-label (sym c.is_outside.ensures ∙ c.if-is_outside.true)
-
-pub returns-then-level-eq0 : goal.returns-then-level-eq0
-returns-then-level-eq0 t c =
-    let a = c.args in
-    found-place a.tree.now a.from a.to a.level a.size a.at a.first (label_in c.read_label.result) c.requires.sized c.if-level-eq0.true c.read_label.ensures (sym c.is_outside.ensures ∙ c.if-is_outside.false)
 
 pub returns-then-is_inside : goal.returns-then-is_inside
 returns-then-is_inside t c =
@@ -26,13 +21,13 @@ returns-then-is_inside t c =
 pub visit_half-left-requires : goal.visit_half-left-requires
 visit_half-left-requires t c =
     let a = c.args in
-    (omega (arith, c.decreases, c.if-level-eq0.false), reach_left (length a.tree.now) a.level a.size a.at a.first c.if-level-eq0.false c.requires)
+    (omega (arith, c.decreases), reach_left (length a.tree.now) a.level a.size a.at a.first (omega arith) c.requires)
 
 -- the right half
 pub visit_half-right-requires : goal.visit_half-right-requires
 visit_half-right-requires t c =
     let a = c.args in
-    (omega (arith, c.decreases, c.if-level-eq0.false), reach_right (length a.tree.now) a.level a.size a.at a.first c.if-level-eq0.false c.requires)
+    (omega (arith, c.decreases), reach_right (length a.tree.now) a.level a.size a.at a.first (omega arith) c.requires)
 
 pub both-requires : goal.both-requires
 both-requires t c =
@@ -48,5 +43,5 @@ returns t c =
     let a = c.args in
     let l = c.visit_half-left in
     let r = c.visit_half-right in
-    found_halves a.tree.now a.from a.to a.level a.size a.at a.first (found_in l.result) (found_in r.result) (found_in c.both.result) c.requires.sized c.if-level-eq0.false
+    found_halves a.tree.now a.from a.to a.level a.size a.at a.first (found_in l.result) (found_in r.result) (found_in c.both.result) c.requires.sized (omega arith)
     (sym c.is_outside.ensures ∙ c.if-is_outside.false) (sym c.is_inside.ensures ∙ c.if-is_inside.false) l.ensures r.ensures c.both.ensures

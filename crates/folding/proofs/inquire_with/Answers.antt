@@ -40,11 +40,7 @@ pub returns-in-Refused : goal.returns-in-Refused
 returns-in-Refused c =
     let B : Table = lent c.args.fresh.now c.args.freshids.now in
     let L : ℕ → Label → Lent = λ marked label. lent_to c.args.times.now c.args.ids.now c.args.needed.now marked label c.args.size c.args.done in
-    let both = (
-      λ marked label. rw c.refuse.ensures (tables_refuse c.args.count (L marked label) (B) _ (rw c.in-Refused.is at c.check_tables.ensures)),
-      λ entering staying e. absurd (not-counted _ c.refuse.result c.refuse.ensures entering staying e),
-    ) in
-    record { by_index = both.0; by_index_2 = both.1 }
+    record { by_index = λ marked label. rw c.refuse.ensures (tables_refuse c.args.count (L marked label) (B) _ (rw c.in-Refused.is at c.check_tables.ensures)); by_index_2 = λ entering staying e. absurd (not-counted _ c.refuse.result c.refuse.ensures entering staying e) }
 
 pub returns-in-Refused-check_list : goal.returns-in-Refused-check_list
 returns-in-Refused-check_list c =
@@ -52,12 +48,8 @@ returns-in-Refused-check_list c =
     let L : ℕ → Label → Lent = λ marked label. lent_to c.args.times.now c.args.ids.now c.args.needed.now marked label c.args.size c.args.done in
     let tables : (sizes c.args.count (L 0 empty) (B) ≡ false) × (orders c.args.count (L 0 empty) (B) ≡ false) = both-passed 1 2 _ _ (rw c.in-Passed.is at c.check_tables.ensures) in
     let t = tables in
-    let both = (
-      λ marked label. rw c.refuse-in-Refused-check_list.ensures
-          (list_refuses c.args.count (L marked label) (B) t.0 t.1 _ (rw c.in-Refused-check_list.is at (c.check_list.ensures c.args.times.now c.args.ids.now marked label))),
-      λ entering staying e. absurd (not-counted _ c.refuse-in-Refused-check_list.result c.refuse-in-Refused-check_list.ensures entering staying e),
-    ) in
-    record { by_index = both.0; by_index_2 = both.1 }
+    record { by_index = λ marked label. rw c.refuse-in-Refused-check_list.ensures
+          (list_refuses c.args.count (L marked label) (B) t.0 t.1 _ (rw c.in-Refused-check_list.is at (c.check_list.ensures c.args.times.now c.args.ids.now marked label))); by_index_2 = λ entering staying e. absurd (not-counted _ c.refuse-in-Refused-check_list.result c.refuse-in-Refused-check_list.ensures entering staying e) }
 
 pub returns-in-Passed-check_list : goal.returns-in-Passed-check_list
 returns-in-Passed-check_list c =
@@ -67,8 +59,4 @@ returns-in-Passed-check_list c =
     let list : (marked : ℕ) (label : Label) → (wrong_needed (L marked label) ≡ false) × (not c.args.done ≡ false) = λ marked label. let a = c.args in
     both-passed 4 15 _ _ (rw c.in-Passed-check_list.is at (c.check_list.ensures a.times.now a.ids.now marked label)) in
     let t = tables in
-    let both = (
-      λ marked label. let f = list marked label in both_pass c.args.count (L marked label) (B) t.0 t.1 f.0 f.1 ∙ c.inquire_checked.ensures.needed_value,
-      λ entering staying e. c.inquire_checked.ensures.marked,
-    ) in
-    record { by_index = both.0; by_index_2 = both.1 }
+    record { by_index = λ marked label. let f = list marked label in both_pass c.args.count (L marked label) (B) t.0 t.1 f.0 f.1 ∙ c.inquire_checked.ensures.needed_value; by_index_2 = λ entering staying e. c.inquire_checked.ensures.marked }

@@ -27,14 +27,14 @@ returns-in-97 c =
 pub returns-in-98-to-111 : goal.returns-in-98-to-111
 returns-in-98-to-111 c =
     let query : List ℕ = c.args.query.now in
-    sym (offers (query) c.if-this-lt96.false (omega (arith, c.if-this-lt112.true)) c.in-98-to-111.in_default-own.rest.1)
+    sym (offers (query) c.in-98-to-111.if-this-lt96-own.false (omega (arith, c.in-98-to-111.if-this-lt112-own.true)) c.in-98-to-111.in_default-own.rest.1)
 
 pub returns-in_default : goal.returns-in_default
 returns-in_default c =
     let query : List ℕ = c.args.query.now in
-    sym (below_60 (query) c.if-this-lt96.true)
+    sym (below_60 (query) c.in_default.if-this-lt96-own.true)
 
 pub returns-in_default-2 : goal.returns-in_default-2
 returns-in_default-2 c =
     let query : List ℕ = c.args.query.now in
-    sym (above_6F (query) c.if-this-lt112.false)
+    sym (above_6F (query) c.in_default.if-this-lt112-own.false)

@@ -1,5 +1,4 @@
 -- `room::count_not_found` meets its contract. The invariant: `Counting`.
-use Prim.Native.Nat.{◌-◌}
 use native.Mathlib.Omega.{arith}
 use Rattle.room.proofs.Unowned.{counting_starts, counting_one, counting_none, counting_ends}
 use Rattle.room.proofs.count_not_found.Goals as goal
@@ -13,8 +12,8 @@ loop-i-preserved c =
     let a = c.args in
     let l = c.loop-i in
     elim c.if-found-i-eq0.branch [
-    | then-found-i-eq0 w ↦ (omega arith, omega arith, rw w.count-is (counting_one a.found.now a.n l.count l.i (omega arith) w.if-found-i-eq0.true l.invariant.2))
-    | else-found-i-eq0 w ↦ (omega arith, omega arith, rw w.count-is (counting_none a.found.now a.n l.count l.i (omega arith) w.if-found-i-eq0.false l.invariant.2))
+      | then-found-i-eq0 w ↦ (omega arith, omega arith, rw w.count-is (counting_one a.found.now a.n l.count l.i (omega arith) w.if-found-i-eq0.true l.invariant.2))
+      | else-found-i-eq0 w ↦ (omega arith, omega arith, rw w.count-is (counting_none a.found.now a.n l.count l.i (omega arith) w.if-found-i-eq0.false l.invariant.2))
     ]
 
 pub returns : goal.returns

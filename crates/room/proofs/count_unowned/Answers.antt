@@ -81,8 +81,7 @@ loop-i-preserved c =
     let t = c.contains_each in
     summing_block a.own.now (a.span.lo * 32) (a.span.hi - a.span.lo) a.m.now a.count a.at t.new.found c.loop-i.sum c.loop-i.i c.block-n.result c.count_not_found-sum.result (omega arith) t.ensures c.count_not_found-sum.ensures.1 c.loop-i.invariant.5 in
     let t = c.contains_each in
-    let n = c.count_not_found-sum.ensures.0 in
-    (
+    let n = c.count_not_found-sum.ensures.0 in (
       omega arith,
       omega arith,
       t.auto.words ∙ c.loop-i.invariant.2,

@@ -46,8 +46,7 @@ count_unowned-more-requires c =
     let s = c in
     let t = c.step-step in
     let ordered = t.ensures.span.0 in
-    let own : t.result.span.lo * 32 + (t.result.span.hi - t.result.span.lo) * 32 ≤ length s.args.own.now = (own_room (T) t.result.span c.requires.0 t.ensures.span).0 in
-    (
+    let own : t.result.span.lo * 32 + (t.result.span.hi - t.result.span.lo) * 32 ≤ length s.args.own.now = (own_room (T) t.result.span c.requires.0 t.ensures.span).0 in (
       ordered,
       omega (arith, ordered),
       ids-inside t.result.payload (length (m)) c.in-Ids.count c.in-Ids.at c.in-Ids.is t.ensures.payload,
@@ -63,8 +62,7 @@ loop-walk-preserved c =
     let t = c.step-step in
     let u = c.count_unowned-more in
     let f = list_adds_unowned (T) (m) l.walk t.result t.ensures c.in-Ids.count c.in-Ids.at c.in-Ids.is in
-    let n = u.ensures (omega arith) in
-    (
+    let n = u.ensures (omega arith) in (
       t.ensures.next,
       omega (arith, v.1),
       omega (arith, v.2, f, n, c.if-left-more.false),

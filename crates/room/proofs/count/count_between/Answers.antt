@@ -37,8 +37,7 @@ next_window-window-requires c =
     let a = c.args in
     let l = c.loop-left in
     let v = l.invariant in
-    let k = c.cap-interval in
-    (
+    let k = c.cap-interval in (
       c.requires.0,
       c.requires.1,
       k.auto.words ∙ v.0 ∙ c.requires.5,
@@ -163,8 +162,7 @@ loop-left-preserved c =
     places w windowed i d.new.pos d.result (omega arith) d.ensures.result_after left floor next in
     let v = c.loop-left.invariant in
     let d = c.drop_known-more.auto in
-    let k = c.next_window-window.auto in
-    (
+    let k = c.next_window-window.auto in (
       d.words ∙ wide,
       d.pos ∙ long,
       k.keys ∙ v.2,

@@ -34,24 +34,22 @@ loop-words-init c =
     let T : Table = lent c.args.times.now c.args.own.now in
     let m : List ℕ = c.args.m.now in
     let ds : List (List ℕ) = ids_in c.args.size c.args.needed.now in
-    let all : List (List ℕ) = added_from T m starts in
-    (
-  length-replicate {A = ℕ} 11008 0,
-  length-replicate {A = ℕ} 11008 0,
-  length-replicate {A = ℕ} 4096 0,
-  length-replicate {A = ℕ} 8200 0,
-  length-replicate {A = ℕ} 1024 0,
-  length-replicate {A = ℕ} 32768 0,
-  length-replicate {A = ℕ} 1024 0,
-  counted_none (all) (ds),
-)
+    let all : List (List ℕ) = added_from T m starts in (
+      length-replicate {A = ℕ} 11008 0,
+      length-replicate {A = ℕ} 11008 0,
+      length-replicate {A = ℕ} 4096 0,
+      length-replicate {A = ℕ} 8200 0,
+      length-replicate {A = ℕ} 1024 0,
+      length-replicate {A = ℕ} 32768 0,
+      length-replicate {A = ℕ} 1024 0,
+      counted_none (all) (ds),
+    )
 
 pub count_between-more-requires : goal.count_between-more-requires
 count_between-more-requires c =
     let l = c.loop-words in
     let v = l.invariant in
-    let e = c.interval_end-last in
-    (
+    let e = c.interval_end-last in (
       c.requires.0,
       c.requires.1,
       c.requires.2,
@@ -88,8 +86,7 @@ returns-then-last c =
     let few : (f more : ℕ) → length (list_below ds all f) ≡ more + length ds → more ≤ length m = λ f more h. omega (arith, h, (list-few ds all sorted whole f).1, added_few T m starts bytes c.requires.1) in
     let goes : length (list_below (ds) (all) ((c.interval_end-last.result + 1) * word_span)) ≡ c.loop-words.more + c.count_between-more.result + length (ds) = omega (arith, c.count_between-more.ensures, c.loop-words.invariant.7) in
     let a = c.args in
-    let h = goes in
-    (
+    let h = goes in (
       counted-ends (T) (m) (ds) (c.loop-words.more + c.count_between-more.result) a.size
           (ap length (sym (counted_all (all) (ds) c.interval_end-last.result (whole) c.if-last.true)) ∙ h) (ids-count a.size a.needed.now),
       few _ _ h,
@@ -103,8 +100,7 @@ loop-words-preserved c =
     let all : List (List ℕ) = added_from T m starts in
     let goes : length (list_below (ds) (all) ((c.interval_end-last.result + 1) * word_span)) ≡ c.loop-words.more + c.count_between-more.result + length (ds) = omega (arith, c.count_between-more.ensures, c.loop-words.invariant.7) in
     let n = c.count_between-more.auto in
-    let v = c.loop-words.invariant in
-    (
+    let v = c.loop-words.invariant in (
       n.words ∙ v.0,
       n.pos ∙ v.1,
       n.keys ∙ v.2,

@@ -10,21 +10,6 @@ use Rattle.index.proofs.Rooms.{room-kept}
 use Rattle.room.proofs.Unowned.{Summing, summing_starts, summing_block, summing_ends}
 use Rattle.room.proofs.count_unowned.Goals as goal
 
--- bounds of places and counts
-record Ranges : Type 0 where
-  few : c.loop.i ≤ start.args.count
-  small : c.loop.sum ≤ c.loop.i
-  ordered : start.args.span.lo ≤ start.args.span.hi
-  owned : start.args.span.hi * 32 ≤ length start.args.own.now
-  inside : start.args.at + start.args.count * 32 ≤ length start.args.m.now
-  noted : 0 < length c.loop.found
-
--- the ids that are looked up together
-record Block (c : tie.After-block invariant-loop decreases-loop) : Type 0 where
-  left_over : c.block.result ≤ (start c.before.before).args.count - c.before.before.loop.i
-  room : c.block.result ≤ length c.before.before.loop.found
-  some : 0 < c.block.result
-
 pub loop-i-init : goal.loop-i-init
 loop-i-init c =
     let a = c.args in
@@ -32,69 +17,76 @@ loop-i-init c =
 
 pub contains_each-requires : goal.contains_each-requires
 contains_each-requires c =
-    let start : tie.Start invariant-loop decreases-loop = c in
-    let room : Room c.loop-i.keys c.loop-i.places c.loop-i.found = let a = start.args in
+    let room : Room c.loop-i.keys c.loop-i.places c.loop-i.found = let a = c.args in
     let l = c.loop-i in
-    room-kept a.keys.now a.places.now a.found.now l.keys l.places l.found start.pre.3 l.invariant.2 l.invariant.3 l.invariant.4 in
-    let ranges : Ranges = let v = c.loop-i.invariant in
-    let p = start.pre in
-    record { few = v.0; small = v.1; ordered = p.0; owned = p.1; inside = p.2; noted = room.noted } in
-    let block : Block c = let e = c.block-n.ensures in
-    let g = ranges in
-    record { left_over = e.0; room = e.1; some = e.2 (omega arith) (room).some (omega arith) } in
-    let a = (start).args in
-    let g = ranges in
-    let b = block in
+    room-kept a.keys.now a.places.now a.found.now l.keys l.places l.found c.requires.3 l.invariant.2 l.invariant.3 l.invariant.4 in
+    let v = c.loop-i.invariant in
+    let p = c.requires in
+    let few : c.loop-i.i ≤ c.args.count = v.0 in
+    let small : c.loop-i.sum ≤ c.loop-i.i = v.1 in
+    let ordered : c.args.span.lo ≤ c.args.span.hi = p.0 in
+    let own-fits : c.args.span.hi * 32 ≤ length c.args.own.now = p.1 in
+    let inside : c.args.at + c.args.count * 32 ≤ length c.args.m.now = p.2 in
+    let noted : 0 < length c.loop-i.found = room.noted in
+    let e = c.block-n.ensures in
+    let left_over : c.block-n.result ≤ c.args.count - c.loop-i.i = e.0 in
+    let in-room : c.block-n.result ≤ length c.loop-i.found = e.1 in
+    let taken : 0 < c.block-n.result = e.2 (omega arith) room.some (omega arith) in
+    let a = c.args in
     let r = room in
     let from = a.span.lo * 32 in
     let at = a.at + c.loop-i.i * 32 in
-    (rw (part-from a.own.now from, length-drop from a.own.now) (omega arith), rw (part-from a.m.now at, length-drop at a.m.now) (omega arith), b.room, r.some, r.beside, r.few)
+    (rw (part-from a.own.now from, length-drop from a.own.now) (omega arith), rw (part-from a.m.now at, length-drop at a.m.now) (omega arith), in-room, r.some, r.beside, r.few)
 
 pub count_not_found-sum-requires : goal.count_not_found-sum-requires
 count_not_found-sum-requires c =
-    let start : tie.Start invariant-loop decreases-loop = c in
-    let room : Room c.loop-i.keys c.loop-i.places c.loop-i.found = let a = start.args in
+    let room : Room c.loop-i.keys c.loop-i.places c.loop-i.found = let a = c.args in
     let l = c.loop-i in
-    room-kept a.keys.now a.places.now a.found.now l.keys l.places l.found start.pre.3 l.invariant.2 l.invariant.3 l.invariant.4 in
-    let ranges : Ranges = let v = c.loop-i.invariant in
-    let p = start.pre in
-    record { few = v.0; small = v.1; ordered = p.0; owned = p.1; inside = p.2; noted = room.noted } in
-    let block : Block c = let e = c.block-n.ensures in
-    let g = ranges in
-    record { left_over = e.0; room = e.1; some = e.2 (omega arith) (room).some (omega arith) } in
+    room-kept a.keys.now a.places.now a.found.now l.keys l.places l.found c.requires.3 l.invariant.2 l.invariant.3 l.invariant.4 in
+    let v = c.loop-i.invariant in
+    let p = c.requires in
+    let few : c.loop-i.i ≤ c.args.count = v.0 in
+    let small : c.loop-i.sum ≤ c.loop-i.i = v.1 in
+    let ordered : c.args.span.lo ≤ c.args.span.hi = p.0 in
+    let own-fits : c.args.span.hi * 32 ≤ length c.args.own.now = p.1 in
+    let inside : c.args.at + c.args.count * 32 ≤ length c.args.m.now = p.2 in
+    let noted : 0 < length c.loop-i.found = room.noted in
+    let e = c.block-n.ensures in
+    let left_over : c.block-n.result ≤ c.args.count - c.loop-i.i = e.0 in
+    let in-room : c.block-n.result ≤ length c.loop-i.found = e.1 in
+    let taken : 0 < c.block-n.result = e.2 (omega arith) room.some (omega arith) in
     let t = c.contains_each in
-    let e = t.auto.found in
-    let b = block in
+    let f = t.auto.found in
     omega arith
 
 pub loop-i-preserved : goal.loop-i-preserved
 loop-i-preserved c =
-    let start : tie.Start invariant-loop decreases-loop = c in
-    let room : Room c.loop-i.keys c.loop-i.places c.loop-i.found = let a = start.args in
+    let room : Room c.loop-i.keys c.loop-i.places c.loop-i.found = let a = c.args in
     let l = c.loop-i in
-    room-kept a.keys.now a.places.now a.found.now l.keys l.places l.found start.pre.3 l.invariant.2 l.invariant.3 l.invariant.4 in
-    let ranges : Ranges = let v = c.loop-i.invariant in
-    let p = start.pre in
-    record { few = v.0; small = v.1; ordered = p.0; owned = p.1; inside = p.2; noted = room.noted } in
-    let block : Block c = let e = c.block-n.ensures in
-    let g = ranges in
-    record { left_over = e.0; room = e.1; some = e.2 (omega arith) (room).some (omega arith) } in
-    let next : let a = (start).args in
-    Summing a.own.now (a.span.lo * 32) (a.span.hi - a.span.lo) a.m.now a.count a.at (c.loop.sum + c.count_not_found-sum.result) (c.loop.i + c.block-n.result) = let a = (start).args in
+    room-kept a.keys.now a.places.now a.found.now l.keys l.places l.found c.requires.3 l.invariant.2 l.invariant.3 l.invariant.4 in
+    let v = c.loop-i.invariant in
+    let p = c.requires in
+    let few : c.loop-i.i ≤ c.args.count = v.0 in
+    let small : c.loop-i.sum ≤ c.loop-i.i = v.1 in
+    let ordered : c.args.span.lo ≤ c.args.span.hi = p.0 in
+    let own-fits : c.args.span.hi * 32 ≤ length c.args.own.now = p.1 in
+    let inside : c.args.at + c.args.count * 32 ≤ length c.args.m.now = p.2 in
+    let noted : 0 < length c.loop-i.found = room.noted in
+    let e = c.block-n.ensures in
+    let left_over : c.block-n.result ≤ c.args.count - c.loop-i.i = e.0 in
+    let in-room : c.block-n.result ≤ length c.loop-i.found = e.1 in
+    let taken : 0 < c.block-n.result = e.2 (omega arith) room.some (omega arith) in
+    let next : let a = c.args in
+    Summing a.own.now (a.span.lo * 32) (a.span.hi - a.span.lo) a.m.now a.count a.at (c.loop-i.sum + c.count_not_found-sum.result) (c.loop-i.i + c.block-n.result) = let a = c.args in
     let t = c.contains_each in
-    let g = ranges in
-    let b = block in
-    summing_block a.own.now (a.span.lo * 32) (a.span.hi - a.span.lo) a.m.now a.count a.at t.new.found c.loop.sum c.loop.i c.block-n.result c.count_not_found-sum.result (omega arith) t.ensures c.count_not_found-sum.ensures.1 c.loop.invariant.5 in
+    summing_block a.own.now (a.span.lo * 32) (a.span.hi - a.span.lo) a.m.now a.count a.at t.new.found c.loop-i.sum c.loop-i.i c.block-n.result c.count_not_found-sum.result (omega arith) t.ensures c.count_not_found-sum.ensures.1 c.loop-i.invariant.5 in
     let t = c.contains_each in
-    let g = ranges in
-    let b = block in
-    let n = c.count_not_found-sum.ensures.0 in
-    (
+    let n = c.count_not_found-sum.ensures.0 in (
       omega arith,
       omega arith,
-      t.auto.words ∙ c.loop.invariant.2,
-      t.auto.pos ∙ c.loop.invariant.3,
-      t.auto.found ∙ c.loop.invariant.4,
+      t.auto.words ∙ c.loop-i.invariant.2,
+      t.auto.pos ∙ c.loop-i.invariant.3,
+      t.auto.found ∙ c.loop-i.invariant.4,
       next,
     )
 
@@ -115,90 +107,111 @@ overflow_sub-owned c = c.requires.0
 
 pub overflow_mul-p : goal.overflow_mul-p
 overflow_mul-p c =
-    let start : tie.Start invariant-loop decreases-loop = c in
-    let room : Room c.loop-i.keys c.loop-i.places c.loop-i.found = let a = start.args in
+    let room : Room c.loop-i.keys c.loop-i.places c.loop-i.found = let a = c.args in
     let l = c.loop-i in
-    room-kept a.keys.now a.places.now a.found.now l.keys l.places l.found start.pre.3 l.invariant.2 l.invariant.3 l.invariant.4 in
-    let ranges : Ranges = let v = c.loop-i.invariant in
-    let p = start.pre in
-    record { few = v.0; small = v.1; ordered = p.0; owned = p.1; inside = p.2; noted = room.noted } in
-    let g = ranges in
+    room-kept a.keys.now a.places.now a.found.now l.keys l.places l.found c.requires.3 l.invariant.2 l.invariant.3 l.invariant.4 in
+    let v = c.loop-i.invariant in
+    let p = c.requires in
+    let few : c.loop-i.i ≤ c.args.count = v.0 in
+    let small : c.loop-i.sum ≤ c.loop-i.i = v.1 in
+    let ordered : c.args.span.lo ≤ c.args.span.hi = p.0 in
+    let own-fits : c.args.span.hi * 32 ≤ length c.args.own.now = p.1 in
+    let inside : c.args.at + c.args.count * 32 ≤ length c.args.m.now = p.2 in
+    let noted : 0 < length c.loop-i.found = room.noted in
     omega arith
 
 pub overflow_add-p : goal.overflow_add-p
 overflow_add-p c =
-    let start : tie.Start invariant-loop decreases-loop = c in
-    let room : Room c.loop-i.keys c.loop-i.places c.loop-i.found = let a = start.args in
+    let room : Room c.loop-i.keys c.loop-i.places c.loop-i.found = let a = c.args in
     let l = c.loop-i in
-    room-kept a.keys.now a.places.now a.found.now l.keys l.places l.found start.pre.3 l.invariant.2 l.invariant.3 l.invariant.4 in
-    let ranges : Ranges = let v = c.loop-i.invariant in
-    let p = start.pre in
-    record { few = v.0; small = v.1; ordered = p.0; owned = p.1; inside = p.2; noted = room.noted } in
-    let g = ranges in
+    room-kept a.keys.now a.places.now a.found.now l.keys l.places l.found c.requires.3 l.invariant.2 l.invariant.3 l.invariant.4 in
+    let v = c.loop-i.invariant in
+    let p = c.requires in
+    let few : c.loop-i.i ≤ c.args.count = v.0 in
+    let small : c.loop-i.sum ≤ c.loop-i.i = v.1 in
+    let ordered : c.args.span.lo ≤ c.args.span.hi = p.0 in
+    let own-fits : c.args.span.hi * 32 ≤ length c.args.own.now = p.1 in
+    let inside : c.args.at + c.args.count * 32 ≤ length c.args.m.now = p.2 in
+    let noted : 0 < length c.loop-i.found = room.noted in
     omega arith
 
 pub slice_bounds-contains_each-count : goal.slice_bounds-contains_each-count
 slice_bounds-contains_each-count c =
-    let start : tie.Start invariant-loop decreases-loop = c in
-    let room : Room c.loop-i.keys c.loop-i.places c.loop-i.found = let a = start.args in
+    let room : Room c.loop-i.keys c.loop-i.places c.loop-i.found = let a = c.args in
     let l = c.loop-i in
-    room-kept a.keys.now a.places.now a.found.now l.keys l.places l.found start.pre.3 l.invariant.2 l.invariant.3 l.invariant.4 in
-    let ranges : Ranges = let v = c.loop-i.invariant in
-    let p = start.pre in
-    record { few = v.0; small = v.1; ordered = p.0; owned = p.1; inside = p.2; noted = room.noted } in
-    let g = ranges in
+    room-kept a.keys.now a.places.now a.found.now l.keys l.places l.found c.requires.3 l.invariant.2 l.invariant.3 l.invariant.4 in
+    let v = c.loop-i.invariant in
+    let p = c.requires in
+    let few : c.loop-i.i ≤ c.args.count = v.0 in
+    let small : c.loop-i.sum ≤ c.loop-i.i = v.1 in
+    let ordered : c.args.span.lo ≤ c.args.span.hi = p.0 in
+    let own-fits : c.args.span.hi * 32 ≤ length c.args.own.now = p.1 in
+    let inside : c.args.at + c.args.count * 32 ≤ length c.args.m.now = p.2 in
+    let noted : 0 < length c.loop-i.found = room.noted in
     omega arith
 
 pub slice_bounds-contains_each-start : goal.slice_bounds-contains_each-start
 slice_bounds-contains_each-start c =
-    let start : tie.Start invariant-loop decreases-loop = c in
-    let room : Room c.loop-i.keys c.loop-i.places c.loop-i.found = let a = start.args in
+    let room : Room c.loop-i.keys c.loop-i.places c.loop-i.found = let a = c.args in
     let l = c.loop-i in
-    room-kept a.keys.now a.places.now a.found.now l.keys l.places l.found start.pre.3 l.invariant.2 l.invariant.3 l.invariant.4 in
-    let ranges : Ranges = let v = c.loop-i.invariant in
-    let p = start.pre in
-    record { few = v.0; small = v.1; ordered = p.0; owned = p.1; inside = p.2; noted = room.noted } in
-    let g = ranges in
+    room-kept a.keys.now a.places.now a.found.now l.keys l.places l.found c.requires.3 l.invariant.2 l.invariant.3 l.invariant.4 in
+    let v = c.loop-i.invariant in
+    let p = c.requires in
+    let few : c.loop-i.i ≤ c.args.count = v.0 in
+    let small : c.loop-i.sum ≤ c.loop-i.i = v.1 in
+    let ordered : c.args.span.lo ≤ c.args.span.hi = p.0 in
+    let own-fits : c.args.span.hi * 32 ≤ length c.args.own.now = p.1 in
+    let inside : c.args.at + c.args.count * 32 ≤ length c.args.m.now = p.2 in
+    let noted : 0 < length c.loop-i.found = room.noted in
     search rules
 
 pub slice_bounds-contains_each-count-in-loop-i : goal.slice_bounds-contains_each-count-in-loop-i
 slice_bounds-contains_each-count-in-loop-i c =
-    let start : tie.Start invariant-loop decreases-loop = c in
-    let room : Room c.loop-i.keys c.loop-i.places c.loop-i.found = let a = start.args in
+    let room : Room c.loop-i.keys c.loop-i.places c.loop-i.found = let a = c.args in
     let l = c.loop-i in
-    room-kept a.keys.now a.places.now a.found.now l.keys l.places l.found start.pre.3 l.invariant.2 l.invariant.3 l.invariant.4 in
-    let ranges : Ranges = let v = c.loop-i.invariant in
-    let p = start.pre in
-    record { few = v.0; small = v.1; ordered = p.0; owned = p.1; inside = p.2; noted = room.noted } in
-    let g = ranges in
+    room-kept a.keys.now a.places.now a.found.now l.keys l.places l.found c.requires.3 l.invariant.2 l.invariant.3 l.invariant.4 in
+    let v = c.loop-i.invariant in
+    let p = c.requires in
+    let few : c.loop-i.i ≤ c.args.count = v.0 in
+    let small : c.loop-i.sum ≤ c.loop-i.i = v.1 in
+    let ordered : c.args.span.lo ≤ c.args.span.hi = p.0 in
+    let own-fits : c.args.span.hi * 32 ≤ length c.args.own.now = p.1 in
+    let inside : c.args.at + c.args.count * 32 ≤ length c.args.m.now = p.2 in
+    let noted : 0 < length c.loop-i.found = room.noted in
     omega arith
 
 pub slice_bounds-contains_each-start-in-loop-i : goal.slice_bounds-contains_each-start-in-loop-i
 slice_bounds-contains_each-start-in-loop-i c =
-    let start : tie.Start invariant-loop decreases-loop = c in
-    let room : Room c.loop-i.keys c.loop-i.places c.loop-i.found = let a = start.args in
+    let room : Room c.loop-i.keys c.loop-i.places c.loop-i.found = let a = c.args in
     let l = c.loop-i in
-    room-kept a.keys.now a.places.now a.found.now l.keys l.places l.found start.pre.3 l.invariant.2 l.invariant.3 l.invariant.4 in
-    let ranges : Ranges = let v = c.loop-i.invariant in
-    let p = start.pre in
-    record { few = v.0; small = v.1; ordered = p.0; owned = p.1; inside = p.2; noted = room.noted } in
-    let g = ranges in
+    room-kept a.keys.now a.places.now a.found.now l.keys l.places l.found c.requires.3 l.invariant.2 l.invariant.3 l.invariant.4 in
+    let v = c.loop-i.invariant in
+    let p = c.requires in
+    let few : c.loop-i.i ≤ c.args.count = v.0 in
+    let small : c.loop-i.sum ≤ c.loop-i.i = v.1 in
+    let ordered : c.args.span.lo ≤ c.args.span.hi = p.0 in
+    let own-fits : c.args.span.hi * 32 ≤ length c.args.own.now = p.1 in
+    let inside : c.args.at + c.args.count * 32 ≤ length c.args.m.now = p.2 in
+    let noted : 0 < length c.loop-i.found = room.noted in
     search rules
 
 pub overflow_add-sum : goal.overflow_add-sum
 overflow_add-sum c =
-    let start : tie.Start invariant-loop decreases-loop = c in
-    let room : Room c.loop-i.keys c.loop-i.places c.loop-i.found = let a = start.args in
+    let room : Room c.loop-i.keys c.loop-i.places c.loop-i.found = let a = c.args in
     let l = c.loop-i in
-    room-kept a.keys.now a.places.now a.found.now l.keys l.places l.found start.pre.3 l.invariant.2 l.invariant.3 l.invariant.4 in
-    let ranges : Ranges = let v = c.loop-i.invariant in
-    let p = start.pre in
-    record { few = v.0; small = v.1; ordered = p.0; owned = p.1; inside = p.2; noted = room.noted } in
-    let block : Block c = let e = c.block-n.ensures in
-    let g = ranges in
-    record { left_over = e.0; room = e.1; some = e.2 (omega arith) (room).some (omega arith) } in
-    let g = ranges in
-    let b = block in
+    room-kept a.keys.now a.places.now a.found.now l.keys l.places l.found c.requires.3 l.invariant.2 l.invariant.3 l.invariant.4 in
+    let v = c.loop-i.invariant in
+    let p = c.requires in
+    let few : c.loop-i.i ≤ c.args.count = v.0 in
+    let small : c.loop-i.sum ≤ c.loop-i.i = v.1 in
+    let ordered : c.args.span.lo ≤ c.args.span.hi = p.0 in
+    let own-fits : c.args.span.hi * 32 ≤ length c.args.own.now = p.1 in
+    let inside : c.args.at + c.args.count * 32 ≤ length c.args.m.now = p.2 in
+    let noted : 0 < length c.loop-i.found = room.noted in
+    let e = c.block-n.ensures in
+    let left_over : c.block-n.result ≤ c.args.count - c.loop-i.i = e.0 in
+    let in-room : c.block-n.result ≤ length c.loop-i.found = e.1 in
+    let taken : 0 < c.block-n.result = e.2 (omega arith) room.some (omega arith) in
     let n = c.count_not_found-sum.ensures.0 in
     omega arith
 
@@ -212,38 +225,44 @@ pub shape_of-found-then-room-sum : goal.shape_of-found-then-room-sum
 shape_of-found-then-room-sum c = c.contains_each.auto.found ∙ c.loop-i.invariant.4
 
 pub returns-then-room-sum : goal.returns-then-room-sum
-returns-then-room-sum c = absurd (omega arith)
+returns-then-room-sum c = λ h. absurd (omega arith)
 
 pub overflow_add-i : goal.overflow_add-i
 overflow_add-i c =
-    let start : tie.Start invariant-loop decreases-loop = c in
-    let room : Room c.loop-i.keys c.loop-i.places c.loop-i.found = let a = start.args in
+    let room : Room c.loop-i.keys c.loop-i.places c.loop-i.found = let a = c.args in
     let l = c.loop-i in
-    room-kept a.keys.now a.places.now a.found.now l.keys l.places l.found start.pre.3 l.invariant.2 l.invariant.3 l.invariant.4 in
-    let ranges : Ranges = let v = c.loop-i.invariant in
-    let p = start.pre in
-    record { few = v.0; small = v.1; ordered = p.0; owned = p.1; inside = p.2; noted = room.noted } in
-    let block : Block c = let e = c.block-n.ensures in
-    let g = ranges in
-    record { left_over = e.0; room = e.1; some = e.2 (omega arith) (room).some (omega arith) } in
-    let g = ranges in
-    let b = block in
+    room-kept a.keys.now a.places.now a.found.now l.keys l.places l.found c.requires.3 l.invariant.2 l.invariant.3 l.invariant.4 in
+    let v = c.loop-i.invariant in
+    let p = c.requires in
+    let few : c.loop-i.i ≤ c.args.count = v.0 in
+    let small : c.loop-i.sum ≤ c.loop-i.i = v.1 in
+    let ordered : c.args.span.lo ≤ c.args.span.hi = p.0 in
+    let own-fits : c.args.span.hi * 32 ≤ length c.args.own.now = p.1 in
+    let inside : c.args.at + c.args.count * 32 ≤ length c.args.m.now = p.2 in
+    let noted : 0 < length c.loop-i.found = room.noted in
+    let e = c.block-n.ensures in
+    let left_over : c.block-n.result ≤ c.args.count - c.loop-i.i = e.0 in
+    let in-room : c.block-n.result ≤ length c.loop-i.found = e.1 in
+    let taken : 0 < c.block-n.result = e.2 (omega arith) room.some (omega arith) in
     omega arith
 
 pub loop-i-smaller : goal.loop-i-smaller
 loop-i-smaller c =
-    let start : tie.Start invariant-loop decreases-loop = c in
-    let room : Room c.loop-i.keys c.loop-i.places c.loop-i.found = let a = start.args in
+    let room : Room c.loop-i.keys c.loop-i.places c.loop-i.found = let a = c.args in
     let l = c.loop-i in
-    room-kept a.keys.now a.places.now a.found.now l.keys l.places l.found start.pre.3 l.invariant.2 l.invariant.3 l.invariant.4 in
-    let ranges : Ranges = let v = c.loop-i.invariant in
-    let p = start.pre in
-    record { few = v.0; small = v.1; ordered = p.0; owned = p.1; inside = p.2; noted = room.noted } in
-    let block : Block c = let e = c.block-n.ensures in
-    let g = ranges in
-    record { left_over = e.0; room = e.1; some = e.2 (omega arith) (room).some (omega arith) } in
-    let g = ranges in
-    let b = block in
+    room-kept a.keys.now a.places.now a.found.now l.keys l.places l.found c.requires.3 l.invariant.2 l.invariant.3 l.invariant.4 in
+    let v = c.loop-i.invariant in
+    let p = c.requires in
+    let few : c.loop-i.i ≤ c.args.count = v.0 in
+    let small : c.loop-i.sum ≤ c.loop-i.i = v.1 in
+    let ordered : c.args.span.lo ≤ c.args.span.hi = p.0 in
+    let own-fits : c.args.span.hi * 32 ≤ length c.args.own.now = p.1 in
+    let inside : c.args.at + c.args.count * 32 ≤ length c.args.m.now = p.2 in
+    let noted : 0 < length c.loop-i.found = room.noted in
+    let e = c.block-n.ensures in
+    let left_over : c.block-n.result ≤ c.args.count - c.loop-i.i = e.0 in
+    let in-room : c.block-n.result ≤ length c.loop-i.found = e.1 in
+    let taken : 0 < c.block-n.result = e.2 (omega arith) room.some (omega arith) in
     omega arith
 
 pub shape_of-keys : goal.shape_of-keys

@@ -19,9 +19,8 @@ loop-walk-init c = rw c.start-walk.ensures (c.requires.1, omega arith, omega ari
 
 pub loop-walk-preserved-in-Skip : goal.loop-walk-preserved-in-Skip
 loop-walk-preserved-in-Skip c =
-    let start : tie.Start invariant-loop decreases-loop = c in
-    let T : Table = lent start.args.times.now start.args.own.now in
-    let m : List ℕ = start.args.m.now in
+    let T : Table = lent c.args.times.now c.args.own.now in
+    let m : List ℕ = c.args.m.now in
     let l = c.loop-walk in
     let t = c.step-step in
     let v = l.invariant in
@@ -30,9 +29,8 @@ loop-walk-preserved-in-Skip c =
 
 pub loop-walk-preserved-in-Fingerprint : goal.loop-walk-preserved-in-Fingerprint
 loop-walk-preserved-in-Fingerprint c =
-    let start : tie.Start invariant-loop decreases-loop = c in
-    let T : Table = lent start.args.times.now start.args.own.now in
-    let m : List ℕ = start.args.m.now in
+    let T : Table = lent c.args.times.now c.args.own.now in
+    let m : List ℕ = c.args.m.now in
     let l = c.loop-walk in
     let t = c.step-step in
     let v = l.invariant in
@@ -41,34 +39,30 @@ loop-walk-preserved-in-Fingerprint c =
 
 pub count_unowned-more-requires : goal.count_unowned-more-requires
 count_unowned-more-requires c =
-    let start : tie.Start invariant-loop decreases-loop = c in
-    let T : Table = lent start.args.times.now start.args.own.now in
-    let m : List ℕ = start.args.m.now in
+    let T : Table = lent c.args.times.now c.args.own.now in
+    let m : List ℕ = c.args.m.now in
     let l = c.loop-walk in
     let v = l.invariant in
-    let s = start in
+    let s = c in
     let t = c.step-step in
     let ordered = t.ensures.span.0 in
-    let own : t.result.span.lo * 32 + (t.result.span.hi - t.result.span.lo) * 32 ≤ length s.args.own.now = (own_room (T) t.result.span s.pre.0 t.ensures.span).0 in
-    (
+    let own : t.result.span.lo * 32 + (t.result.span.hi - t.result.span.lo) * 32 ≤ length s.args.own.now = (own_room (T) t.result.span c.requires.0 t.ensures.span).0 in (
       ordered,
       omega (arith, ordered),
       ids-inside t.result.payload (length (m)) c.in-Ids.count c.in-Ids.at c.in-Ids.is t.ensures.payload,
-      room-kept s.args.keys.now s.args.places.now s.args.found.now l.keys l.places l.found s.pre.2 v.3 v.4 v.5,
+      room-kept s.args.keys.now s.args.places.now s.args.found.now l.keys l.places l.found c.requires.2 v.3 v.4 v.5,
     )
 
 pub loop-walk-preserved : goal.loop-walk-preserved
 loop-walk-preserved c =
-    let start : tie.Start invariant-loop decreases-loop = c in
-    let T : Table = lent start.args.times.now start.args.own.now in
-    let m : List ℕ = start.args.m.now in
+    let T : Table = lent c.args.times.now c.args.own.now in
+    let m : List ℕ = c.args.m.now in
     let l = c.loop-walk in
     let v = l.invariant in
     let t = c.step-step in
     let u = c.count_unowned-more in
     let f = list_adds_unowned (T) (m) l.walk t.result t.ensures c.in-Ids.count c.in-Ids.at c.in-Ids.is in
-    let n = u.ensures (omega arith) in
-    (
+    let n = u.ensures (omega arith) in (
       t.ensures.next,
       omega (arith, v.1),
       omega (arith, v.2, f, n, c.if-left-more.false),
@@ -79,9 +73,8 @@ loop-walk-preserved c =
 
 pub returns : goal.returns
 returns c =
-    let start : tie.Start invariant-loop decreases-loop = c in
-    let T : Table = lent start.args.times.now start.args.own.now in
-    let m : List ℕ = start.args.m.now in
+    let T : Table = lent c.args.times.now c.args.own.now in
+    let m : List ℕ = c.args.m.now in
     let l = c.loop-walk in
     let e = ap length (added_ends (T) (m) l.walk c.loop-walk-test.false) in
     λ _. omega (arith, l.invariant.2, e)
@@ -91,8 +84,7 @@ step-step-requires c = (c.requires.0, c.loop-walk.invariant.0, c.loop-walk-test.
 
 pub loop-walk-smaller-in-Skip : goal.loop-walk-smaller-in-Skip
 loop-walk-smaller-in-Skip c =
-    let start : tie.Start invariant-loop decreases-loop = c in
-    let m : List ℕ = start.args.m.now in
+    let m : List ℕ = c.args.m.now in
     let moves : length (m) - c.step-step.result.next.cursor.at < length (m) - c.loop-walk.walk.cursor.at = let t = c.step-step.ensures in
     let h = t.moved in
     let i = t.inside in
@@ -101,8 +93,7 @@ loop-walk-smaller-in-Skip c =
 
 pub loop-walk-smaller-in-Fingerprint : goal.loop-walk-smaller-in-Fingerprint
 loop-walk-smaller-in-Fingerprint c =
-    let start : tie.Start invariant-loop decreases-loop = c in
-    let m : List ℕ = start.args.m.now in
+    let m : List ℕ = c.args.m.now in
     let moves : length (m) - c.step-step.result.next.cursor.at < length (m) - c.loop-walk.walk.cursor.at = let t = c.step-step.ensures in
     let h = t.moved in
     let i = t.inside in
@@ -119,12 +110,11 @@ pub shape_of-found-then-left-more : goal.shape_of-found-then-left-more
 shape_of-found-then-left-more c = c.count_unowned-more.auto.found ∙ c.loop-walk.invariant.5
 
 pub returns-then-left-more : goal.returns-then-left-more
-returns-then-left-more c = clash e refl
+returns-then-left-more c = λ e. clash e refl
 
 pub loop-walk-smaller : goal.loop-walk-smaller
 loop-walk-smaller c =
-    let start : tie.Start invariant-loop decreases-loop = c in
-    let m : List ℕ = start.args.m.now in
+    let m : List ℕ = c.args.m.now in
     let moves : length (m) - c.step-step.result.next.cursor.at < length (m) - c.loop-walk.walk.cursor.at = let t = c.step-step.ensures in
     let h = t.moved in
     let i = t.inside in

@@ -15,8 +15,7 @@ use Rattle.needed.proofs.batch.add_list_down.Goals as goal
 pub loop-left-init : goal.loop-left-init
 loop-left-init c =
     let m : List ℕ = c.args.m.now in
-    let a = c.args in
-    (
+    let a = c.args in (
       omega arith,
       refl,
       refl,
@@ -92,8 +91,7 @@ add_new_down-batch-requires c =
     let f : length c.contains_each.new.found ≡ length l.found = c.contains_each.auto.found in
     let some = c.requires.1 in
     let listed = c.requires.4 in
-    let room = c.requires.6 in
-    (
+    let room = c.requires.6 in (
       l.invariant.7.batched,
       omega arith,
       omega arith,
@@ -134,8 +132,7 @@ loop-left-preserved c =
     (others-last a.own.now (first) (owned) (m) a.count a.at c.contains_each.new.found l.left c.block-n.result left_over c.contains_each.ensures) l.invariant.7 in
     let l = c.loop-left in
     let a = c.args in
-    let t = c.add_new_down-batch in
-    (
+    let t = c.add_new_down-batch in (
       omega arith,
       t.auto.needed ∙ l.invariant.1,
       t.auto.words ∙ l.invariant.2,

@@ -18,8 +18,7 @@ use Rattle.needed.proofs.batch.add_list_up.Goals as goal
 pub loop-i-init : goal.loop-i-init
 loop-i-init c =
     let m : List ℕ = c.args.m.now in
-    let a = c.args in
-    (
+    let a = c.args in (
       omega arith,
       refl,
       refl,
@@ -105,8 +104,7 @@ add_new-batch-requires c =
     let f : length c.contains_each.new.found ≡ length l.found = c.contains_each.auto.found in
     let some = c.requires.1 in
     let listed = c.requires.4 in
-    let room = c.requires.6 in
-    (
+    let room = c.requires.6 in (
       l.invariant.8.batched,
       omega arith,
       omega arith,
@@ -155,8 +153,7 @@ loop-i-preserved c =
     let newIn : List (List ℕ) = not_found c.contains_each.new.found c.block-n.result (drop (c.args.at + c.loop-i.i * 32) (m)) in
     let l = c.loop-i in
     let a = c.args in
-    let t = c.add_new-batch in
-    (
+    let t = c.add_new-batch in (
       omega arith,
       t.auto.needed ∙ l.invariant.1,
       t.auto.words ∙ l.invariant.2,

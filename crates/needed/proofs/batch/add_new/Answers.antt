@@ -1,5 +1,5 @@
 -- `needed::batch::add_new` meets its contract. The invariant: `Adding`, with the ids from the i-th on still to come.
-use Prim.Native.Nat.{ℕ, ◌+◌, ◌-◌, ◌*◌, ◌<◌}
+use Prim.Native.Nat.{ℕ, ◌+◌, ◌*◌, ◌<◌}
 use mathlib.Core.Path.{refl, ◌∙◌}
 use mathlib.Core.List.{List, ◌++◌, foldr}
 use native.Mathlib.Omega.{arith}
@@ -37,8 +37,7 @@ add_unless-batch-requires c =
     let h : l.i < a.n = omega arith in
     let n = l.invariant.1 in
     let p = l.invariant.3 in
-    let room = c.requires.4 in
-    (
+    let room = c.requires.4 in (
       l.invariant.5.batched,
       omega arith,
       omega arith,
@@ -64,8 +63,7 @@ loop-i-preserved c =
     let a = c.args in
     let l = c.loop-i in
     let t = c.add_unless-batch in
-    let h : l.i < a.n = c.loop-i-test.true in
-    (
+    let h : l.i < a.n = c.loop-i-test.true in (
       omega arith,
       t.auto.needed ∙ l.invariant.1,
       t.auto.words ∙ l.invariant.2,

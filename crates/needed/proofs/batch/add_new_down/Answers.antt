@@ -32,8 +32,7 @@ add_unless-batch-requires c =
     let listed = c.requires.2 in
     let n = l.invariant.1 in
     let p = l.invariant.3 in
-    let room = c.requires.4 in
-    (
+    let room = c.requires.4 in (
       l.invariant.4.batched,
       omega arith,
       omega arith,
@@ -55,8 +54,7 @@ loop-i-preserved c =
     let l = c.loop-i in
     let t = c.add_unless-batch in
     let few = l.invariant.0 in
-    let some : 0 < l.i = c.loop-i-test.true in
-    (
+    let some : 0 < l.i = c.loop-i-test.true in (
       omega arith,
       t.auto.needed ∙ l.invariant.1,
       t.auto.words ∙ l.invariant.2,

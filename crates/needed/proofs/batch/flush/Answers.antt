@@ -80,8 +80,7 @@ merge-requires c =
     c.requires.0.long c.requires.0.points c.sort.ensures.0 c.distinct-once.ensures.0 few-once few-fresh c.drop_known-fresh.ensures.result_after in
     let s = c in
     let n = counts in
-    let room = c.requires.1 in
-    (
+    let room = c.requires.1 in (
       few-fresh,
       wide-fresh,
       c.drop_known-fresh.ensures.upper_bound.2,

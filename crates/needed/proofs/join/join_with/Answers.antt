@@ -1,5 +1,5 @@
 -- `needed::join::join_with` meets its contract. The invariant: `Adding`, with what the ranges from the walk on add still to come.
-use Prim.Native.Nat.{ℕ, ◌+◌, ◌-◌, ◌*◌, ◌≤◌, ◌<◌}
+use Prim.Native.Nat.{ℕ, ◌+◌, ◌-◌, ◌*◌, ◌≤◌}
 use mathlib.Core.Path.{refl, ◌∙◌}
 use mathlib.Core.List.{List, [], ◌++◌, foldr}
 use native.Mathlib.Omega.{arith}
@@ -39,8 +39,7 @@ loop-walk-preserved-in-Skip c =
     let b₀ : Batch = record { size = c.args.size; count = 0 } in
     let l = c.loop-walk in
     let t = c.step-step in
-    let v = l.invariant in
-    (
+    let v = l.invariant in (
       t.ensures.next,
       v.1,
       v.2,
@@ -62,8 +61,7 @@ loop-walk-preserved-in-Fingerprint c =
     let b₀ : Batch = record { size = c.args.size; count = 0 } in
     let l = c.loop-walk in
     let t = c.step-step in
-    let v = l.invariant in
-    (
+    let v = l.invariant in (
       t.ensures.next,
       v.1,
       v.2,
@@ -106,8 +104,7 @@ add_list-batch-requires c =
     let own : (step).span.lo * 32 + ((step).span.hi - (step).span.lo) * 32 ≤ length s.args.own.now = (own_room (T) (step).span c.requires.0 c.step-step.ensures.span).0 in
     let ordered = c.step-step.ensures.span.0 in
     let some = c.requires.5 in
-    let long = v.3 in
-    (
+    let long = v.3 in (
       v.8.batched,
       omega arith,
       ordered,
@@ -140,8 +137,7 @@ loop-walk-preserved c =
     let rest-sized : All (Sized 32) rest = added_sized T m step.next bytes c.step-step.ensures.next in
     let l = c.loop-walk in
     let v = l.invariant in
-    let t = c.add_list-batch in
-    (
+    let t = c.add_list-batch in (
       c.step-step.ensures.next,
       t.auto.needed ∙ v.1,
       t.auto.words ∙ v.2,

@@ -29,31 +29,15 @@ loop-left-init c = (refl, refl, refl, refl, refl, refl, refl, counted-starts _ _
 
 pub cap-interval-requires : goal.cap-interval-requires
 cap-interval-requires c =
-    let start : tie.Start invariant-loop decreases-loop = c in
-    let T : Table = lent start.args.times.now start.args.own.now in
-    let m : List ℕ = start.args.m.now in
-    let all : List (List ℕ) = added_from T m starts in
-    let turn : tie.At-loop invariant-loop decreases-loop = c in
-    let part : Interval = c.cap-interval.result in
-    let places : List ℕ = c.next_window-window.new.pos in
-    let w : Window = c.next_window-window.result in
-    let windowed : Windowed (m turn) (all turn) (limits part (m turn)) places w = c.next_window-window.ensures.0 in
-    let long : length places ≡ length (start turn).args.pos.now = c.next_window-window.auto.pos ∙ c.cap-interval.auto.pos ∙ turn.loop.inv.1 in
-    let inside : w.count ≤ length places = let l = long in
-    let h = windowed.few in
-    let e = (start turn).pre.6 in
-    omega arith in
     let v = c.loop-left.invariant in
     (c.requires.0, c.requires.1, v.7.inside c.loop-left-test.true, refl, v.0 ∙ c.requires.5, v.1 ∙ c.requires.6)
 
 pub next_window-window-requires : goal.next_window-window-requires
 next_window-window-requires c =
-    let places : List ℕ = c.next_window-window.new.pos in
     let a = c.args in
     let l = c.loop-left in
     let v = l.invariant in
-    let k = c.cap-interval in
-    (
+    let k = c.cap-interval in (
       c.requires.0,
       c.requires.1,
       k.auto.words ∙ v.0 ∙ c.requires.5,
@@ -65,180 +49,154 @@ next_window-window-requires c =
 
 pub drop_known-more-requires : goal.drop_known-more-requires
 drop_known-more-requires c =
-    let start : tie.Start invariant-loop decreases-loop = c in
-    let T : Table = lent start.args.times.now start.args.own.now in
-    let m : List ℕ = start.args.m.now in
+    let T : Table = lent c.args.times.now c.args.own.now in
+    let m : List ℕ = c.args.m.now in
     let all : List (List ℕ) = added_from T m starts in
-    let turn : tie.At-loop invariant-loop decreases-loop = c in
     let part : Interval = c.cap-interval.result in
     let places : List ℕ = c.next_window-window.new.pos in
     let w : Window = c.next_window-window.result in
-    let windowed : Windowed (m turn) (all turn) (limits part (m turn)) places w = c.next_window-window.ensures.0 in
-    let long : length places ≡ length (start turn).args.pos.now = c.next_window-window.auto.pos ∙ c.cap-interval.auto.pos ∙ turn.loop.inv.1 in
-    let wide : length c.next_window-window.new.words ≡ length (start turn).args.words.now = c.next_window-window.auto.words ∙ c.cap-interval.auto.words ∙ turn.loop.inv.0 in
+    let windowed : Windowed (m) (all) (limits part (m)) places w = c.next_window-window.ensures.0 in
+    let long : length places ≡ length c.args.pos.now = c.next_window-window.auto.pos ∙ c.cap-interval.auto.pos ∙ c.loop-left.invariant.1 in
+    let wide : length c.next_window-window.new.words ≡ length c.args.words.now = c.next_window-window.auto.words ∙ c.cap-interval.auto.words ∙ c.loop-left.invariant.0 in
     let inside : w.count ≤ length places = let l = long in
     let h = windowed.few in
-    let e = (start turn).pre.6 in
+    let e = c.requires.6 in
     omega arith in
-    let s = start (turn) in
+    let s = c in
     let few = (windowed).few in
     let l = wide in
-    let e = s.pre.5 in
-    (inside, omega arith, c.next-window.ensures.1, (windowed).points, s.pre.2, s.pre.3)
+    let e = c.requires.5 in
+    (inside, omega arith, c.next_window-window.ensures.1, (windowed).points, c.requires.2, c.requires.3)
 
 pub overflow_add-more : goal.overflow_add-more
 overflow_add-more c =
-    let start : tie.Start invariant-loop decreases-loop = c in
-    let T : Table = lent start.args.times.now start.args.own.now in
-    let m : List ℕ = start.args.m.now in
-    let ds : List (List ℕ) = ids_in start.args.size start.args.needed.now in
+    let T : Table = lent c.args.times.now c.args.own.now in
+    let m : List ℕ = c.args.m.now in
+    let ds : List (List ℕ) = ids_in c.args.size c.args.needed.now in
     let all : List (List ℕ) = added_from T m starts in
-    let low : ℕ = start.args.low in
-    let last : ℕ = start.args.last in
+    let low : ℕ = c.args.low in
+    let last : ℕ = c.args.last in
     let bytes : Bytes m = small_bytes m (λ k. omega (arith, c.type_inv.m k)) in
-    let sorted : Sorted ds = ids_sorted start.args.size start.args.needed.now (λ k. omega (arith, c.type_inv.needed k)) start.pre.2 start.pre.3 in
-    let whole : All (Sized 32) all = added_sized T m starts bytes start.pre.1 in
-    let turn : tie.At-loop invariant-loop decreases-loop = c in
+    let sorted : Sorted ds = ids_sorted c.args.size c.args.needed.now (λ k. omega (arith, c.type_inv.needed k)) c.requires.2 c.requires.3 in
+    let whole : All (Sized 32) all = added_sized T m starts bytes c.requires.1 in
     let part : Interval = c.cap-interval.result in
-    let capped : Capped (m turn) (interval (low turn) (last turn) turn.loop.first turn.loop.floor) part = c.cap-interval.ensures in
+    let capped : Capped (m) (interval (low) (last) c.loop-left.first c.loop-left.floor) part = c.cap-interval.ensures in
     let places : List ℕ = c.next_window-window.new.pos in
     let w : Window = c.next_window-window.result in
-    let windowed : Windowed (m turn) (all turn) (limits part (m turn)) places w = c.next_window-window.ensures.0 in
-    let long : length places ≡ length (start turn).args.pos.now = c.next_window-window.auto.pos ∙ c.cap-interval.auto.pos ∙ turn.loop.inv.1 in
+    let windowed : Windowed (m) (all) (limits part (m)) places w = c.next_window-window.ensures.0 in
+    let long : length places ≡ length c.args.pos.now = c.next_window-window.auto.pos ∙ c.cap-interval.auto.pos ∙ c.loop-left.invariant.1 in
     let inside : w.count ≤ length places = let l = long in
     let h = windowed.few in
-    let e = (start turn).pre.6 in
+    let e = c.requires.6 in
     omega arith in
-    let found-window : tie.After-next-window invariant-loop decreases-loop = c in
-    let at_turn : tie.At-loop invariant-loop decreases-loop = turn found-window in
     let left : Bool = c.behind-next.result.more in
     let floor : ℕ = c.behind-next.result.floor in
-    let next : Next (m at_turn) (places found-window) (w found-window) (limits (part found-window) (m at_turn)) left (interval (low at_turn) (last at_turn) false floor) = let l = at_turn.loop in
-    next-made (m at_turn) (low at_turn) (last at_turn) l.first l.floor (part found-window) (capped found-window) (all at_turn) (places found-window) (w found-window) (windowed found-window)
+    let next : Next (m) places w (limits part (m)) left (interval (low) (last) false floor) = let l = c.loop-left in
+    next-made (m) (low) (last) l.first l.floor part capped (all) places w windowed
     left floor c.behind-next.ensures.0 c.behind-next.ensures.1 in
-    let goes : Counted (m at_turn) (all at_turn) (ds at_turn) (interval (low at_turn) (last at_turn) false floor) (at_turn.loop.more + c.drop_known-more.result) left = let k = at_turn in
-    let n = found-window in
-    let l = k.loop in
+    let goes : Counted (m) (all) (ds) (interval (low) (last) false floor) (c.loop-left.more + c.drop_known-more.result) left =
+    let l = c.loop-left in
     let d = c.drop_known-more in
     let b = d.ensures.upper_bound.0 in
     let e = d.auto.pos in
-    let i = inside n in
-    counted_goes (m k) (all k) (ds k) (sorted k) (whole k) (low k) (last k) l.first l.floor l.more l.left c.loop-left-test.true l.inv.7 (part n) (capped n) (bytes k)
-    (places n) (w n) (windowed n) i d.new.pos d.result (omega arith) d.ensures.result_after left floor next in
-    let k = at_turn in
-    let s = start k in
-    omega (arith, counted-few (m k) (all k) (ds k) (sorted k) (whole k) _ _ _ (goes), added_few (T k) (m k) starts (bytes k) s.pre.1, s.good.1.1.1.1)
+    let i = inside in
+    counted_goes (m) (all) (ds) (sorted) (whole) (low) (last) l.first l.floor l.more l.left c.loop-left-test.true l.invariant.7 part capped (bytes)
+    places w windowed i d.new.pos d.result (omega arith) d.ensures.result_after left floor next in
+    let s = c in
+    omega (arith, counted-few (m) (all) (ds) (sorted) (whole) _ _ _ (goes), added_few (T) (m) starts (bytes) c.requires.1, c.well_formed)
 
 pub loop-left-smaller : goal.loop-left-smaller
 loop-left-smaller c =
-    let start : tie.Start invariant-loop decreases-loop = c in
-    let T : Table = lent start.args.times.now start.args.own.now in
-    let m : List ℕ = start.args.m.now in
+    let T : Table = lent c.args.times.now c.args.own.now in
+    let m : List ℕ = c.args.m.now in
     let all : List (List ℕ) = added_from T m starts in
-    let low : ℕ = start.args.low in
-    let last : ℕ = start.args.last in
-    let turn : tie.At-loop invariant-loop decreases-loop = c in
+    let low : ℕ = c.args.low in
+    let last : ℕ = c.args.last in
     let part : Interval = c.cap-interval.result in
-    let capped : Capped (m turn) (interval (low turn) (last turn) turn.loop.first turn.loop.floor) part = c.cap-interval.ensures in
+    let capped : Capped (m) (interval (low) (last) c.loop-left.first c.loop-left.floor) part = c.cap-interval.ensures in
     let places : List ℕ = c.next_window-window.new.pos in
     let w : Window = c.next_window-window.result in
-    let windowed : Windowed (m turn) (all turn) (limits part (m turn)) places w = c.next_window-window.ensures.0 in
-    let found-window : tie.After-next-window invariant-loop decreases-loop = c in
-    let at_turn : tie.At-loop invariant-loop decreases-loop = turn found-window in
+    let windowed : Windowed (m) (all) (limits part (m)) places w = c.next_window-window.ensures.0 in
     let left : Bool = c.behind-next.result.more in
     let floor : ℕ = c.behind-next.result.floor in
-    let next : Next (m at_turn) (places found-window) (w found-window) (limits (part found-window) (m at_turn)) left (interval (low at_turn) (last at_turn) false floor) = let l = at_turn.loop in
-    next-made (m at_turn) (low at_turn) (last at_turn) l.first l.floor (part found-window) (capped found-window) (all at_turn) (places found-window) (w found-window) (windowed found-window)
+    let next : Next (m) places w (limits part (m)) left (interval (low) (last) false floor) = let l = c.loop-left in
+    next-made (m) (low) (last) l.first l.floor part capped (all) places w windowed
     left floor c.behind-next.ensures.0 c.behind-next.ensures.1 in
-    let k = at_turn in
-    let n = found-window in
-    let l = k.loop in
-    ahead_falls (m k) (low k) (last k) l.first l.floor (part n) (capped n) (all k) (places n) (w n) (windowed n) (left) (floor) (next) l.left c.loop-left-test.true
+    let l = c.loop-left in
+    ahead_falls (m) (low) (last) l.first l.floor part capped (all) places w windowed (left) (floor) (next) l.left c.loop-left-test.true
 
 pub loop-left-preserved : goal.loop-left-preserved
 loop-left-preserved c =
-    let start : tie.Start invariant-loop decreases-loop = c in
-    let T : Table = lent start.args.times.now start.args.own.now in
-    let m : List ℕ = start.args.m.now in
-    let ds : List (List ℕ) = ids_in start.args.size start.args.needed.now in
+    let T : Table = lent c.args.times.now c.args.own.now in
+    let m : List ℕ = c.args.m.now in
+    let ds : List (List ℕ) = ids_in c.args.size c.args.needed.now in
     let all : List (List ℕ) = added_from T m starts in
-    let low : ℕ = start.args.low in
-    let last : ℕ = start.args.last in
+    let low : ℕ = c.args.low in
+    let last : ℕ = c.args.last in
     let bytes : Bytes m = small_bytes m (λ k. omega (arith, c.type_inv.m k)) in
-    let sorted : Sorted ds = ids_sorted start.args.size start.args.needed.now (λ k. omega (arith, c.type_inv.needed k)) start.pre.2 start.pre.3 in
-    let whole : All (Sized 32) all = added_sized T m starts bytes start.pre.1 in
-    let turn : tie.At-loop invariant-loop decreases-loop = c in
+    let sorted : Sorted ds = ids_sorted c.args.size c.args.needed.now (λ k. omega (arith, c.type_inv.needed k)) c.requires.2 c.requires.3 in
+    let whole : All (Sized 32) all = added_sized T m starts bytes c.requires.1 in
     let part : Interval = c.cap-interval.result in
-    let capped : Capped (m turn) (interval (low turn) (last turn) turn.loop.first turn.loop.floor) part = c.cap-interval.ensures in
+    let capped : Capped (m) (interval (low) (last) c.loop-left.first c.loop-left.floor) part = c.cap-interval.ensures in
     let places : List ℕ = c.next_window-window.new.pos in
     let w : Window = c.next_window-window.result in
-    let windowed : Windowed (m turn) (all turn) (limits part (m turn)) places w = c.next_window-window.ensures.0 in
-    let long : length places ≡ length (start turn).args.pos.now = c.next_window-window.auto.pos ∙ c.cap-interval.auto.pos ∙ turn.loop.inv.1 in
-    let wide : length c.next_window-window.new.words ≡ length (start turn).args.words.now = c.next_window-window.auto.words ∙ c.cap-interval.auto.words ∙ turn.loop.inv.0 in
+    let windowed : Windowed (m) (all) (limits part (m)) places w = c.next_window-window.ensures.0 in
+    let long : length places ≡ length c.args.pos.now = c.next_window-window.auto.pos ∙ c.cap-interval.auto.pos ∙ c.loop-left.invariant.1 in
+    let wide : length c.next_window-window.new.words ≡ length c.args.words.now = c.next_window-window.auto.words ∙ c.cap-interval.auto.words ∙ c.loop-left.invariant.0 in
     let inside : w.count ≤ length places = let l = long in
     let h = windowed.few in
-    let e = (start turn).pre.6 in
+    let e = c.requires.6 in
     omega arith in
-    let found-window : tie.After-next-window invariant-loop decreases-loop = c in
-    let at_turn : tie.At-loop invariant-loop decreases-loop = turn found-window in
     let left : Bool = c.behind-next.result.more in
     let floor : ℕ = c.behind-next.result.floor in
-    let next : Next (m at_turn) (places found-window) (w found-window) (limits (part found-window) (m at_turn)) left (interval (low at_turn) (last at_turn) false floor) = let l = at_turn.loop in
-    next-made (m at_turn) (low at_turn) (last at_turn) l.first l.floor (part found-window) (capped found-window) (all at_turn) (places found-window) (w found-window) (windowed found-window)
+    let next : Next (m) places w (limits part (m)) left (interval (low) (last) false floor) = let l = c.loop-left in
+    next-made (m) (low) (last) l.first l.floor part capped (all) places w windowed
     left floor c.behind-next.ensures.0 c.behind-next.ensures.1 in
-    let goes : Counted (m at_turn) (all at_turn) (ds at_turn) (interval (low at_turn) (last at_turn) false floor) (at_turn.loop.more + c.drop_known-more.result) left = let k = at_turn in
-    let n = found-window in
-    let l = k.loop in
+    let goes : Counted (m) (all) (ds) (interval (low) (last) false floor) (c.loop-left.more + c.drop_known-more.result) left =
+    let l = c.loop-left in
     let d = c.drop_known-more in
     let b = d.ensures.upper_bound.0 in
     let e = d.auto.pos in
-    let i = inside n in
-    counted_goes (m k) (all k) (ds k) (sorted k) (whole k) (low k) (last k) l.first l.floor l.more l.left c.loop-left-test.true l.inv.7 (part n) (capped n) (bytes k)
-    (places n) (w n) (windowed n) i d.new.pos d.result (omega arith) d.ensures.result_after left floor next in
-    let n = found-window in
-    let v = (at_turn).loop.invariant in
+    let i = inside in
+    counted_goes (m) (all) (ds) (sorted) (whole) (low) (last) l.first l.floor l.more l.left c.loop-left-test.true l.invariant.7 part capped (bytes)
+    places w windowed i d.new.pos d.result (omega arith) d.ensures.result_after left floor next in
+    let v = c.loop-left.invariant in
     let d = c.drop_known-more.auto in
-    let k = n.next_window.kept in
-    (
-      d.words ∙ wide n,
-      d.pos ∙ long n,
-      k.1.1.1.1.1.1.0 ∙ v.2,
-      k.1.1.1.1.1.1.1.0 ∙ v.3,
-      k.1.1.1.1.1.1.1.1.0 ∙ v.4,
-      k.1.1.1.1.1.1.1.1.1.0 ∙ v.5,
-      k.1.1.1.1.1.1.1.1.1.1.0 ∙ v.6,
+    let k = c.next_window-window.auto in (
+      d.words ∙ wide,
+      d.pos ∙ long,
+      k.keys ∙ v.2,
+      k.places ∙ v.3,
+      k.found ∙ v.4,
+      k.ids ∙ v.5,
+      k.picks ∙ v.6,
       goes,
     )
 
 pub returns : goal.returns
 returns c =
-    let start : tie.Start invariant-loop decreases-loop = c in
-    let T : Table = lent start.args.times.now start.args.own.now in
-    let m : List ℕ = start.args.m.now in
-    let ds : List (List ℕ) = ids_in start.args.size start.args.needed.now in
+    let T : Table = lent c.args.times.now c.args.own.now in
+    let m : List ℕ = c.args.m.now in
+    let ds : List (List ℕ) = ids_in c.args.size c.args.needed.now in
     let all : List (List ℕ) = added_from T m starts in
-    let low : ℕ = start.args.low in
-    let last : ℕ = start.args.last in
-    let left : Bool = c.behind-next.result.more in
-    let floor : ℕ = c.behind-next.result.floor in
+    let low : ℕ = c.args.low in
+    let last : ℕ = c.args.last in
     let l = c.loop-left in
     counted-between (m) (all) (ds) (low) (last) l.first l.floor l.more l.left c.loop-left-test.false l.invariant.7
 
 pub behind-next-requires : goal.behind-next-requires
 behind-next-requires c =
-    let start : tie.Start invariant-loop decreases-loop = c in
-    let T : Table = lent start.args.times.now start.args.own.now in
-    let m : List ℕ = start.args.m.now in
+    let T : Table = lent c.args.times.now c.args.own.now in
+    let m : List ℕ = c.args.m.now in
     let all : List (List ℕ) = added_from T m starts in
-    let turn : tie.At-loop invariant-loop decreases-loop = c in
     let part : Interval = c.cap-interval.result in
     let places : List ℕ = c.next_window-window.new.pos in
     let w : Window = c.next_window-window.result in
-    let windowed : Windowed (m turn) (all turn) (limits part (m turn)) places w = c.next_window-window.ensures.0 in
-    let long : length places ≡ length (start turn).args.pos.now = c.next_window-window.auto.pos ∙ c.cap-interval.auto.pos ∙ turn.loop.inv.1 in
+    let windowed : Windowed (m) (all) (limits part (m)) places w = c.next_window-window.ensures.0 in
+    let long : length places ≡ length c.args.pos.now = c.next_window-window.auto.pos ∙ c.cap-interval.auto.pos ∙ c.loop-left.invariant.1 in
     let inside : w.count ≤ length places = let l = long in
     let h = windowed.few in
-    let e = (start turn).pre.6 in
+    let e = c.requires.6 in
     omega arith in
     ((windowed).some, inside)
 

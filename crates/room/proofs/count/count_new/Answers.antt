@@ -1,5 +1,5 @@
 -- `room::count::count_new` meets its contract. The invariant: the ids below the next interval are counted.
-use Prim.Native.Nat.{ℕ, ◌+◌, ◌-◌, ◌*◌, ◌≤◌}
+use Prim.Native.Nat.{ℕ, ◌+◌, ◌*◌, ◌≤◌}
 use mathlib.Core.Path.{◌≡◌, sym, ap, ◌∙◌}
 use mathlib.Core.List.{List}
 use native.Mathlib.Omega.{arith}
@@ -31,28 +31,25 @@ picking i p f a b c = record { some = omega arith; wide = omega arith; noted = o
 
 pub loop-words-init : goal.loop-words-init
 loop-words-init c =
-    let start : tie.Start invariant-loop decreases-loop = c in
-    let T : Table = lent start.args.times.now start.args.own.now in
-    let m : List ℕ = start.args.m.now in
-    let ds : List (List ℕ) = ids_in start.args.size start.args.needed.now in
-    let all : List (List ℕ) = added_from T m starts in
-    (
-  length-replicate {A = ℕ} 11008 0,
-  length-replicate {A = ℕ} 11008 0,
-  length-replicate {A = ℕ} 4096 0,
-  length-replicate {A = ℕ} 8200 0,
-  length-replicate {A = ℕ} 1024 0,
-  length-replicate {A = ℕ} 32768 0,
-  length-replicate {A = ℕ} 1024 0,
-  counted_none (all) (ds),
-)
+    let T : Table = lent c.args.times.now c.args.own.now in
+    let m : List ℕ = c.args.m.now in
+    let ds : List (List ℕ) = ids_in c.args.size c.args.needed.now in
+    let all : List (List ℕ) = added_from T m starts in (
+      length-replicate {A = ℕ} 11008 0,
+      length-replicate {A = ℕ} 11008 0,
+      length-replicate {A = ℕ} 4096 0,
+      length-replicate {A = ℕ} 8200 0,
+      length-replicate {A = ℕ} 1024 0,
+      length-replicate {A = ℕ} 32768 0,
+      length-replicate {A = ℕ} 1024 0,
+      counted_none (all) (ds),
+    )
 
 pub count_between-more-requires : goal.count_between-more-requires
 count_between-more-requires c =
     let l = c.loop-words in
     let v = l.invariant in
-    let e = c.interval_end-last in
-    (
+    let e = c.interval_end-last in (
       c.requires.0,
       c.requires.1,
       c.requires.2,
@@ -66,33 +63,30 @@ count_between-more-requires c =
 
 pub overflow_add-more : goal.overflow_add-more
 overflow_add-more c =
-    let start : tie.Start invariant-loop decreases-loop = c in
-    let T : Table = lent start.args.times.now start.args.own.now in
-    let m : List ℕ = start.args.m.now in
-    let ds : List (List ℕ) = ids_in start.args.size start.args.needed.now in
+    let T : Table = lent c.args.times.now c.args.own.now in
+    let m : List ℕ = c.args.m.now in
+    let ds : List (List ℕ) = ids_in c.args.size c.args.needed.now in
     let all : List (List ℕ) = added_from T m starts in
     let bytes : Bytes m = small_bytes m (λ k. omega (arith, c.type_inv.m k)) in
-    let sorted : Sorted ds = ids_sorted start.args.size start.args.needed.now (λ k. omega (arith, c.type_inv.needed k)) start.pre.2 start.pre.3 in
-    let whole : All (Sized 32) all = added_sized T m starts bytes start.pre.1 in
-    let few : (f more : ℕ) → length (list_below ds all f) ≡ more + length ds → more ≤ length m = λ f more h. omega (arith, h, (list-few ds all sorted whole f).1, added_few T m starts bytes start.pre.1) in
+    let sorted : Sorted ds = ids_sorted c.args.size c.args.needed.now (λ k. omega (arith, c.type_inv.needed k)) c.requires.2 c.requires.3 in
+    let whole : All (Sized 32) all = added_sized T m starts bytes c.requires.1 in
+    let few : (f more : ℕ) → length (list_below ds all f) ≡ more + length ds → more ≤ length m = λ f more h. omega (arith, h, (list-few ds all sorted whole f).1, added_few T m starts bytes c.requires.1) in
     let goes : length (list_below (ds) (all) ((c.interval_end-last.result + 1) * word_span)) ≡ c.loop-words.more + c.count_between-more.result + length (ds) = omega (arith, c.count_between-more.ensures, c.loop-words.invariant.7) in
-    omega (arith, few _ _ (goes), (start).well-formed.1.1.1.1)
+    omega (arith, few _ _ (goes), c.well_formed)
 
 pub returns-then-last : goal.returns-then-last
 returns-then-last c =
-    let start : tie.Start invariant-loop decreases-loop = c in
-    let T : Table = lent start.args.times.now start.args.own.now in
-    let m : List ℕ = start.args.m.now in
-    let ds : List (List ℕ) = ids_in start.args.size start.args.needed.now in
+    let T : Table = lent c.args.times.now c.args.own.now in
+    let m : List ℕ = c.args.m.now in
+    let ds : List (List ℕ) = ids_in c.args.size c.args.needed.now in
     let all : List (List ℕ) = added_from T m starts in
     let bytes : Bytes m = small_bytes m (λ k. omega (arith, c.type_inv.m k)) in
-    let sorted : Sorted ds = ids_sorted start.args.size start.args.needed.now (λ k. omega (arith, c.type_inv.needed k)) start.pre.2 start.pre.3 in
-    let whole : All (Sized 32) all = added_sized T m starts bytes start.pre.1 in
-    let few : (f more : ℕ) → length (list_below ds all f) ≡ more + length ds → more ≤ length m = λ f more h. omega (arith, h, (list-few ds all sorted whole f).1, added_few T m starts bytes start.pre.1) in
+    let sorted : Sorted ds = ids_sorted c.args.size c.args.needed.now (λ k. omega (arith, c.type_inv.needed k)) c.requires.2 c.requires.3 in
+    let whole : All (Sized 32) all = added_sized T m starts bytes c.requires.1 in
+    let few : (f more : ℕ) → length (list_below ds all f) ≡ more + length ds → more ≤ length m = λ f more h. omega (arith, h, (list-few ds all sorted whole f).1, added_few T m starts bytes c.requires.1) in
     let goes : length (list_below (ds) (all) ((c.interval_end-last.result + 1) * word_span)) ≡ c.loop-words.more + c.count_between-more.result + length (ds) = omega (arith, c.count_between-more.ensures, c.loop-words.invariant.7) in
-    let a = (start).args in
-    let h = goes in
-    (
+    let a = c.args in
+    let h = goes in (
       counted-ends (T) (m) (ds) (c.loop-words.more + c.count_between-more.result) a.size
           (ap length (sym (counted_all (all) (ds) c.interval_end-last.result (whole) c.if-last.true)) ∙ h) (ids-count a.size a.needed.now),
       few _ _ h,
@@ -100,15 +94,13 @@ returns-then-last c =
 
 pub loop-words-preserved : goal.loop-words-preserved
 loop-words-preserved c =
-    let start : tie.Start invariant-loop decreases-loop = c in
-    let T : Table = lent start.args.times.now start.args.own.now in
-    let m : List ℕ = start.args.m.now in
-    let ds : List (List ℕ) = ids_in start.args.size start.args.needed.now in
+    let T : Table = lent c.args.times.now c.args.own.now in
+    let m : List ℕ = c.args.m.now in
+    let ds : List (List ℕ) = ids_in c.args.size c.args.needed.now in
     let all : List (List ℕ) = added_from T m starts in
     let goes : length (list_below (ds) (all) ((c.interval_end-last.result + 1) * word_span)) ≡ c.loop-words.more + c.count_between-more.result + length (ds) = omega (arith, c.count_between-more.ensures, c.loop-words.invariant.7) in
     let n = c.count_between-more.auto in
-    let v = c.loop-words.invariant in
-    (
+    let v = c.loop-words.invariant in (
       n.words ∙ v.0,
       n.pos ∙ v.1,
       n.keys ∙ v.2,

@@ -6,6 +6,7 @@ use Rattle.table.specs.Code.{lent}
 use Rattle.table.specs.Table.{Table}
 use Rattle.judging.specs.Private.{edge_of}
 use Rattle.judging.proofs.Judging.{step_rises, judging_start, judging_next, judging_stop, judging_end}
+use borrow.Author.Tests.{not-true, not-false}
 use Rattle.judging.proofs.merge.query_answered.Goals as goal
 
 pub start-walk-requires : goal.start-walk-requires
@@ -49,7 +50,7 @@ returns-then-not-met c =
     (small_bytes a.query.now (λ k. omega (arith, c.type_inv.query k)))
     c.step-step.result c.step-step.ensures c.asks-asked.result c.asks-asked.ensures
     (edge_of c.edge_before-lower.result) c.edge_before-lower.ensures c.range_answered-met.result c.range_answered-met.ensures
-    c.if-not-met.true
+    (not-true _ c.if-not-met.true)
 
 pub loop-walk-smaller : goal.loop-walk-smaller
 loop-walk-smaller c =
@@ -67,7 +68,7 @@ loop-walk-preserved c =
     (small_bytes a.query.now (λ k. omega (arith, c.type_inv.query k)))
     c.step-step.result c.step-step.ensures c.asks-asked.result c.asks-asked.ensures
     (edge_of c.edge_before-lower.result) c.edge_before-lower.ensures c.range_answered-met.result c.range_answered-met.ensures
-    c.if-not-met.false
+    (not-false _ c.if-not-met.false)
 
 pub edge_before-lower-requires-2 : goal.edge_before-lower-requires-2
 edge_before-lower-requires-2 c = tt

@@ -10,19 +10,6 @@ use Rattle.index.proofs.Rooms.{room-kept}
 use Rattle.judging.proofs.Listing.{block_listed, block-unlisted, all_listed}
 use Rattle.judging.proofs.sets.all_listed.Goals as goal
 
--- bounds of places and counts
-record Ranges : Type 0 where
-  few : c.loop.i ≤ c.before.before.before.before.before.before.args.n
-  listed : c.before.before.before.before.before.before.args.count * 32 ≤ length c.before.before.before.before.before.before.args.list.now
-  inside : c.before.before.before.before.before.before.args.n * 32 ≤ length c.before.before.before.before.before.before.args.ids.now
-  noted : 0 < length c.loop.found
-
--- the ids that are looked up together
-record Block (c : tie.After-block invariant-loop decreases-loop) : Type 0 where
-  left_over : c.block.result ≤ (start c.before.before).args.n - c.before.before.loop.i
-  room : c.block.result ≤ length c.before.before.loop.found
-  some : 0 < c.block.result
-
 pub loop-i-init : goal.loop-i-init
 loop-i-init c = (omega arith, refl, refl, refl, λ k lt. absurd (omega arith))
 
@@ -31,38 +18,38 @@ overflow_mul-at c =
     let room : Room c.loop-i.words c.loop-i.pos c.loop-i.found = let a = c.args in
     let l = c.loop-i in
     room-kept a.words.now a.pos.now a.found.now l.words l.pos l.found c.requires.2 l.invariant.1 l.invariant.2 l.invariant.3 in
-    let ranges : Ranges = let p = c.requires in
-    record { few = c.loop-i.invariant.0; listed = p.0; inside = p.1; noted = room.noted } in
+    let ranges : (c.loop-i.i ≤ c.args.n) × (c.args.count * 32 ≤ length c.args.list.now) × (c.args.n * 32 ≤ length c.args.ids.now) × (0 < length c.loop-i.found) = let p = c.requires in
+    (c.loop-i.invariant.0, p.0, p.1, room.noted) in
     let g = ranges in
-    omega (arith, (start c).good)
+    omega (arith, c.well_formed)
 
 pub contains_each-requires : goal.contains_each-requires
 contains_each-requires c =
     let room : Room c.loop-i.words c.loop-i.pos c.loop-i.found = let a = c.args in
     let l = c.loop-i in
     room-kept a.words.now a.pos.now a.found.now l.words l.pos l.found c.requires.2 l.invariant.1 l.invariant.2 l.invariant.3 in
-    let ranges : Ranges = let p = c.requires in
-    record { few = c.loop-i.invariant.0; listed = p.0; inside = p.1; noted = room.noted } in
-    let block : Block c = let e = c.block-part.ensures in
+    let ranges : (c.loop-i.i ≤ c.args.n) × (c.args.count * 32 ≤ length c.args.list.now) × (c.args.n * 32 ≤ length c.args.ids.now) × (0 < length c.loop-i.found) = let p = c.requires in
+    (c.loop-i.invariant.0, p.0, p.1, room.noted) in
+    let block : (c.block-part.result ≤ c.args.n - c.loop-i.i) × (c.block-part.result ≤ length c.loop-i.found) × (0 < c.block-part.result) = let e = c.block-part.ensures in
     let g = ranges in
-    record { left_over = e.0; room = e.1; some = e.2 (omega arith) (room).some (omega arith) } in
-    let ids = (start c).args.ids.now in
+    (e.0, e.1, e.2 (omega arith) (room).some (omega arith)) in
+    let ids = c.args.ids.now in
     let g = ranges in
     let b = block in
     let r = room in
     let at = c.loop-i.i * 32 in
-    (g.listed, rw (part-from ids at, length-drop at ids) (omega arith), b.room, r.some, r.beside, r.few)
+    (g.1, rw (part-from ids at, length-drop at ids) (omega arith), b.1, r.some, r.beside, r.few)
 
 pub all_found-requires : goal.all_found-requires
 all_found-requires c =
     let room : Room c.loop-i.words c.loop-i.pos c.loop-i.found = let a = c.args in
     let l = c.loop-i in
     room-kept a.words.now a.pos.now a.found.now l.words l.pos l.found c.requires.2 l.invariant.1 l.invariant.2 l.invariant.3 in
-    let ranges : Ranges = let p = c.requires in
-    record { few = c.loop-i.invariant.0; listed = p.0; inside = p.1; noted = room.noted } in
-    let block : Block c = let e = c.block-part.ensures in
+    let ranges : (c.loop-i.i ≤ c.args.n) × (c.args.count * 32 ≤ length c.args.list.now) × (c.args.n * 32 ≤ length c.args.ids.now) × (0 < length c.loop-i.found) = let p = c.requires in
+    (c.loop-i.invariant.0, p.0, p.1, room.noted) in
+    let block : (c.block-part.result ≤ c.args.n - c.loop-i.i) × (c.block-part.result ≤ length c.loop-i.found) × (0 < c.block-part.result) = let e = c.block-part.ensures in
     let g = ranges in
-    record { left_over = e.0; room = e.1; some = e.2 (omega arith) (room).some (omega arith) } in
+    (e.0, e.1, e.2 (omega arith) (room).some (omega arith)) in
     let t = c.contains_each in
     let e = t.auto.found in
     let b = block in
@@ -73,16 +60,16 @@ returns-then-not-all_found c =
     let room : Room c.loop-i.words c.loop-i.pos c.loop-i.found = let a = c.args in
     let l = c.loop-i in
     room-kept a.words.now a.pos.now a.found.now l.words l.pos l.found c.requires.2 l.invariant.1 l.invariant.2 l.invariant.3 in
-    let ranges : Ranges = let p = c.requires in
-    record { few = c.loop-i.invariant.0; listed = p.0; inside = p.1; noted = room.noted } in
-    let block : Block c = let e = c.block-part.ensures in
+    let ranges : (c.loop-i.i ≤ c.args.n) × (c.args.count * 32 ≤ length c.args.list.now) × (c.args.n * 32 ≤ length c.args.ids.now) × (0 < length c.loop-i.found) = let p = c.requires in
+    (c.loop-i.invariant.0, p.0, p.1, room.noted) in
+    let block : (c.block-part.result ≤ c.args.n - c.loop-i.i) × (c.block-part.result ≤ length c.loop-i.found) × (0 < c.block-part.result) = let e = c.block-part.ensures in
     let g = ranges in
-    record { left_over = e.0; room = e.1; some = e.2 (omega arith) (room).some (omega arith) } in
-    let a = (start c).args in
+    (e.0, e.1, e.2 (omega arith) (room).some (omega arith)) in
+    let a = c.args in
     let g = ranges in
     let b = block in
     let t = c.contains_each in
-    sym (block-unlisted a.list.now a.count a.ids.now c.loop.i c.block-part.result a.n t.new.found (omega arith) t.ensures
+    sym (block-unlisted a.list.now a.count a.ids.now c.loop-i.i c.block-part.result a.n t.new.found (omega arith) t.ensures
     (rw c.if-not-all_found.true at c.all_found.ensures))
 
 pub loop-i-preserved : goal.loop-i-preserved
@@ -90,22 +77,22 @@ loop-i-preserved c =
     let room : Room c.loop-i.words c.loop-i.pos c.loop-i.found = let a = c.args in
     let l = c.loop-i in
     room-kept a.words.now a.pos.now a.found.now l.words l.pos l.found c.requires.2 l.invariant.1 l.invariant.2 l.invariant.3 in
-    let ranges : Ranges = let p = c.requires in
-    record { few = c.loop-i.invariant.0; listed = p.0; inside = p.1; noted = room.noted } in
-    let block : Block c = let e = c.block-part.ensures in
+    let ranges : (c.loop-i.i ≤ c.args.n) × (c.args.count * 32 ≤ length c.args.list.now) × (c.args.n * 32 ≤ length c.args.ids.now) × (0 < length c.loop-i.found) = let p = c.requires in
+    (c.loop-i.invariant.0, p.0, p.1, room.noted) in
+    let block : (c.block-part.result ≤ c.args.n - c.loop-i.i) × (c.block-part.result ≤ length c.loop-i.found) × (0 < c.block-part.result) = let e = c.block-part.ensures in
     let g = ranges in
-    record { left_over = e.0; room = e.1; some = e.2 (omega arith) (room).some (omega arith) } in
-    let a = (start c).args in
+    (e.0, e.1, e.2 (omega arith) (room).some (omega arith)) in
+    let a = c.args in
     let g = ranges in
     let b = block in
     let t = c.contains_each in
     (
       omega arith,
-      t.auto.words ∙ c.loop.invariant.1,
-      t.auto.pos ∙ c.loop.invariant.2,
-      t.auto.found ∙ c.loop.invariant.3,
-      block_listed a.list.now a.count a.ids.now c.loop.i c.block-part.result t.new.found t.ensures
-          (rw c.if-not-all_found.false at c.all_found.ensures) c.loop.invariant.4,
+      t.auto.words ∙ c.loop-i.invariant.1,
+      t.auto.pos ∙ c.loop-i.invariant.2,
+      t.auto.found ∙ c.loop-i.invariant.3,
+      block_listed a.list.now a.count a.ids.now c.loop-i.i c.block-part.result t.new.found t.ensures
+          (rw c.if-not-all_found.false at c.all_found.ensures) c.loop-i.invariant.4,
     )
 
 pub returns : goal.returns
@@ -119,8 +106,8 @@ overflow_sub-n c =
     let room : Room c.loop-i.words c.loop-i.pos c.loop-i.found = let a = c.args in
     let l = c.loop-i in
     room-kept a.words.now a.pos.now a.found.now l.words l.pos l.found c.requires.2 l.invariant.1 l.invariant.2 l.invariant.3 in
-    let ranges : Ranges = let p = c.requires in
-    record { few = c.loop-i.invariant.0; listed = p.0; inside = p.1; noted = room.noted } in
+    let ranges : (c.loop-i.i ≤ c.args.n) × (c.args.count * 32 ≤ length c.args.list.now) × (c.args.n * 32 ≤ length c.args.ids.now) × (0 < length c.loop-i.found) = let p = c.requires in
+    (c.loop-i.invariant.0, p.0, p.1, room.noted) in
     let g = ranges in
     omega arith
 
@@ -129,8 +116,8 @@ slice_bounds-contains_each-count c =
     let room : Room c.loop-i.words c.loop-i.pos c.loop-i.found = let a = c.args in
     let l = c.loop-i in
     room-kept a.words.now a.pos.now a.found.now l.words l.pos l.found c.requires.2 l.invariant.1 l.invariant.2 l.invariant.3 in
-    let ranges : Ranges = let p = c.requires in
-    record { few = c.loop-i.invariant.0; listed = p.0; inside = p.1; noted = room.noted } in
+    let ranges : (c.loop-i.i ≤ c.args.n) × (c.args.count * 32 ≤ length c.args.list.now) × (c.args.n * 32 ≤ length c.args.ids.now) × (0 < length c.loop-i.found) = let p = c.requires in
+    (c.loop-i.invariant.0, p.0, p.1, room.noted) in
     let g = ranges in
     omega arith
 
@@ -139,8 +126,8 @@ slice_bounds-contains_each-start c =
     let room : Room c.loop-i.words c.loop-i.pos c.loop-i.found = let a = c.args in
     let l = c.loop-i in
     room-kept a.words.now a.pos.now a.found.now l.words l.pos l.found c.requires.2 l.invariant.1 l.invariant.2 l.invariant.3 in
-    let ranges : Ranges = let p = c.requires in
-    record { few = c.loop-i.invariant.0; listed = p.0; inside = p.1; noted = room.noted } in
+    let ranges : (c.loop-i.i ≤ c.args.n) × (c.args.count * 32 ≤ length c.args.list.now) × (c.args.n * 32 ≤ length c.args.ids.now) × (0 < length c.loop-i.found) = let p = c.requires in
+    (c.loop-i.invariant.0, p.0, p.1, room.noted) in
     let g = ranges in
     search rules
 
@@ -158,11 +145,11 @@ overflow_add-i c =
     let room : Room c.loop-i.words c.loop-i.pos c.loop-i.found = let a = c.args in
     let l = c.loop-i in
     room-kept a.words.now a.pos.now a.found.now l.words l.pos l.found c.requires.2 l.invariant.1 l.invariant.2 l.invariant.3 in
-    let ranges : Ranges = let p = c.requires in
-    record { few = c.loop-i.invariant.0; listed = p.0; inside = p.1; noted = room.noted } in
-    let block : Block c = let e = c.block-part.ensures in
+    let ranges : (c.loop-i.i ≤ c.args.n) × (c.args.count * 32 ≤ length c.args.list.now) × (c.args.n * 32 ≤ length c.args.ids.now) × (0 < length c.loop-i.found) = let p = c.requires in
+    (c.loop-i.invariant.0, p.0, p.1, room.noted) in
+    let block : (c.block-part.result ≤ c.args.n - c.loop-i.i) × (c.block-part.result ≤ length c.loop-i.found) × (0 < c.block-part.result) = let e = c.block-part.ensures in
     let g = ranges in
-    record { left_over = e.0; room = e.1; some = e.2 (omega arith) (room).some (omega arith) } in
+    (e.0, e.1, e.2 (omega arith) (room).some (omega arith)) in
     let g = ranges in
     let b = block in
     omega arith
@@ -172,11 +159,11 @@ loop-i-smaller c =
     let room : Room c.loop-i.words c.loop-i.pos c.loop-i.found = let a = c.args in
     let l = c.loop-i in
     room-kept a.words.now a.pos.now a.found.now l.words l.pos l.found c.requires.2 l.invariant.1 l.invariant.2 l.invariant.3 in
-    let ranges : Ranges = let p = c.requires in
-    record { few = c.loop-i.invariant.0; listed = p.0; inside = p.1; noted = room.noted } in
-    let block : Block c = let e = c.block-part.ensures in
+    let ranges : (c.loop-i.i ≤ c.args.n) × (c.args.count * 32 ≤ length c.args.list.now) × (c.args.n * 32 ≤ length c.args.ids.now) × (0 < length c.loop-i.found) = let p = c.requires in
+    (c.loop-i.invariant.0, p.0, p.1, room.noted) in
+    let block : (c.block-part.result ≤ c.args.n - c.loop-i.i) × (c.block-part.result ≤ length c.loop-i.found) × (0 < c.block-part.result) = let e = c.block-part.ensures in
     let g = ranges in
-    record { left_over = e.0; room = e.1; some = e.2 (omega arith) (room).some (omega arith) } in
+    (e.0, e.1, e.2 (omega arith) (room).some (omega arith)) in
     let g = ranges in
     let b = block in
     omega arith

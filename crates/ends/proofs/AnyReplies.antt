@@ -1,20 +1,17 @@
 -- Lawful replies of any kind make reports true and complete, with byte limits, either rule for cutting, and other tables at the opener's calls.
 use Prim.Native.Nat.{ℕ}
-use mathlib.Core.Path.{◌≡◌}
-use mathlib.Core.Bool.{false}
 use mathlib.Core.List.{List, ◌++◌}
 use Rattle.message.specs.WellFormed.{Bytes}
 use Rattle.theory.specs.Rounds.{Cut}
 use Rattle.theory.proofs.Tests.{by_test, clash}
 use Rattle.table.specs.Table.{Table, items, wrong_size, not_rising}
-use Rattle.limit.specs.Limit.{Limit}
 use Rattle.limit.proofs.Parts.{OwnItems, own-items}
 use Rattle.ends.specs.Demand.{Place, Reported, OneTime}
 use Rattle.ends.specs.Takes.{Run}
 use Rattle.ends.specs.Mixed.{AnyTake, handed_to, opening_within, taking}
 use Rattle.ends.specs.AnyReplies as specs
 use Rattle.ends.specs.AnyReplies.{TrueAndCompleteMixed}
-use Rattle.ends.proofs.Tables.{Kept, kept, keys_of}
+use Rattle.ends.proofs.Tables.{Kept, kept}
 use Rattle.ends.proofs.Calls.{unrefused-opening}
 use Rattle.ends.proofs.Relations.{Begun}
 use Rattle.ends.proofs.Takes.{reported, reported_never}

@@ -2,7 +2,7 @@
 use Prim.Native.Nat.{ℕ}
 use mathlib.Core.Path.{◌≡◌, sym, ◌∙◌}
 use Rattle.theory.specs.Rounds.{Cut}
-use Rattle.table.specs.Answer.{answer, refused}
+use Rattle.table.specs.Answer.{refused}
 use Rattle.table.specs.Table.{Table}
 use Rattle.ends.specs.Opener.{Lent, table_label}
 use Rattle.ends.specs.Takes.{lent_at}

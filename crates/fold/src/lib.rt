@@ -1,3 +1,2 @@
 // Batches folded into the opener's table: definitions and theorems alone.
 #![tactic(auto)]
-

@@ -3,13 +3,13 @@ use mathlib.Core.Path.{◌≡◌, refl, sym, ap, ◌∙◌}
 use mathlib.Core.Bool.{true, false}
 use mathlib.Core.List.{List, [], ◌∷◌}
 use mathlib.Core.Logic.{◌⊎◌, inl, inr}
-use Prim.Native.Nat.{ℕ, ◌-◌, ◌*◌, ◌≤◌, ◌<◌, zero-le}
+use Prim.Native.Nat.{ℕ, ◌*◌, ◌≤◌, ◌<◌, zero-le}
 use native.Mathlib.Nat.{mul-le-mul_left}
 use native.Mathlib.Omega.{arith}
 use lib.Dec.{leb, ltb}
 use borrow.Author.Tests.{leb-false, lt-ltb}
 use Rattle.theory.specs.Table.{between}
-use Rattle.theory.specs.Message.{Payload, skip, fingerprint, ids, range, Message, Stands, here, there, payload_at}
+use Rattle.theory.specs.Message.{Payload, skip, fingerprint, ids, Message, Stands, here, there, payload_at}
 use Rattle.theory.specs.Protocol.{Protocol, ids_in}
 use Rattle.theory.specs.Rounds.{count}
 use Rattle.theory.specs.End.{End, Fit, Proper}

@@ -21,7 +21,7 @@ use Rattle.ends.specs.Lists.{same}
 use Rattle.ends.proofs.Lists.{mem_has, has_mem}
 use Rattle.ends.proofs.Tables.{same_true}
 use Rattle.ends.proofs.Reports.{same_refl}
-use Rattle.judge.specs.Approved.{Stands, Approved}
+use Rattle.judge.specs.Approved.{Approved}
 use Rattle.judge.proofs.Places.{stands, whole_sits, At, at_place}
 use Rattle.judge.proofs.Projection.{Source, source, stands_project, payload_project, skip-back, print-back, list_back}
 

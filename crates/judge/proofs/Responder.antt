@@ -8,7 +8,7 @@ use native.Mathlib.Omega.{arith}
 use Rattle.message.specs.Bound.{Bound, big_endian, key, start}
 use Rattle.message.specs.Message.{Payload, skip, fingerprint, ids, Range, range}
 use Rattle.message.specs.Meaning.{payload_at, tidy}
-use Rattle.message.specs.WellFormed.{All, Bytes, Sized, LawfulPayload, Rising, WellFormed}
+use Rattle.message.specs.WellFormed.{All, Sized, LawfulPayload, Rising, WellFormed}
 use Rattle.message.proofs.Exact.{differ}
 use Rattle.message.proofs.Messages.{message-back}
 use Rattle.message.proofs.Meaning.{tidy-rises, meaning}
@@ -21,7 +21,6 @@ use Rattle.theory.specs.Ends as ends
 use Rattle.theory.proofs.Tests.{by_test}
 use Rattle.theory.proofs.Messages.{Rises}
 use Rattle.theory.proofs.Ends.{answer-lawful}
-use Rattle.table.specs.Answer.{answer}
 use Rattle.table.specs.Table.{key_of, Table, items, within, ids_of}
 use Rattle.cutting.specs.Cutting.{fingerprint_of}
 use Rattle.cutting.proofs.Projection.{protocol, payload, project, key-start, within-whole}

@@ -1,5 +1,5 @@
 -- Reports with approved replies are true and complete: an instance of `true_and_complete_mixed`.
-use mathlib.Core.Path.{◌≡◌, sym, ap, ◌∙◌}
+use mathlib.Core.Path.{sym, ap, ◌∙◌}
 use Prim.Native.Nat.{ℕ}
 use mathlib.Core.List.{List}
 use Rattle.message.specs.WellFormed.{Bytes}

@@ -3,7 +3,6 @@ use Prim.Native.Nat.{ℕ}
 use mathlib.Core.Path.{◌≡◌, refl, sym, ap, ◌∙◌}
 use mathlib.Core.Bool.{Bool, true, false}
 use mathlib.Core.List.{List, [], map}
-use mathlib.Core.Logic.{◌↔◌}
 use Rattle.message.specs.Reader.{Outcome, read, refused}
 use Rattle.message.specs.Message.{Range, read_message}
 use Rattle.message.specs.WellFormed.{Bytes, WellFormed}

@@ -1,3 +1,2 @@
 // A judge of replies: definitions and theorems alone.
 #![tactic(auto)]
-

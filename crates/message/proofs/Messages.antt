@@ -6,10 +6,10 @@ use native.Mathlib.Omega.{arith}
 use lib.ListN.{length, length-append}
 use lib.Dec.{eqb}
 use borrow.Author.Tests.{eqb-true}
-use Rattle.message.specs.Reader.{read, refused, Reader, read_bytes}
+use Rattle.message.specs.Reader.{read, refused, read_bytes}
 use Rattle.message.specs.Varint.{read_varint, spell_varint}
 use Rattle.message.specs.Bound.{Bound, start, key, read_bound}
-use Rattle.message.specs.Message.{Payload, skip, fingerprint, ids, Range, range, upper, read_ids, read_of_mode, read_payload, read_range, until_end, read_ranges, read_message, spell_payload, spell_range, spell_ranges, spell_message}
+use Rattle.message.specs.Message.{Payload, skip, fingerprint, ids, Range, range, upper, read_ids, read_of_mode, read_payload, read_range, read_ranges, read_message, spell_payload, spell_range, spell_ranges, spell_message}
 use Rattle.message.specs.WellFormed.{All, Bytes, Sized, LawfulBound, LawfulPayload, Rising, WellFormed}
 use Rattle.message.proofs.Exact.{Spelled, Exact, differ, got, given, same_on, passed, exact_bytes}
 use Rattle.message.proofs.Varints.{exact_varint}

@@ -1,3 +1,2 @@
 // A session on bytes, computed by the checker: definitions and proofs alone.
 #![tactic(auto)]
-

@@ -9,7 +9,7 @@ use lib.Dec.{leb}
 use lib.ListN.{length, take, drop, replicate, length-map}
 use borrow.Author.Tests.{leb-true, leb-false, le-leb}
 use Rattle.message.specs.Bound.{Bound, infinity, key, time, start}
-use Rattle.message.specs.Message.{fingerprint, ids, Range, range, upper, spell_message}
+use Rattle.message.specs.Message.{fingerprint, Range, range, upper, spell_message}
 use Rattle.message.specs.Meaning.{tidy, write_message}
 use Rattle.message.specs.WellFormed.{Bytes, LawfulBound, Rising}
 use Rattle.message.proofs.Exact.{by_test}

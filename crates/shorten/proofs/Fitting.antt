@@ -10,7 +10,7 @@ use lib.Seq.{get_or-take, get_or-drop, length-take-le}
 use borrow.Author.Tests.{leb-true, leb-false, le-leb, lt-leb, lt-ltb}
 use Rattle.message.specs.Varint.{spell_varint}
 use Rattle.message.specs.Bound.{Bound, key, spell_bound}
-use Rattle.message.specs.Message.{ids, Range, range, upper, spell_payload, spell_range}
+use Rattle.message.specs.Message.{ids, range, upper, spell_payload, spell_range}
 use Rattle.message.specs.Meaning.{is_skip}
 use Rattle.message.specs.WellFormed.{All, Bytes, Sized}
 use Rattle.message.specs.Code.{bound_of, range_of, ids_in}

@@ -10,7 +10,7 @@ use lib.ListN.{length, length-append}
 use borrow.Author.Tests.{le-leb, lt-leb}
 use Rattle.message.specs.Varint.{spell_varint, digits_before}
 use Rattle.message.specs.Bound.{Bound, infinity, start, spell_prefix, spell_bound}
-use Rattle.message.specs.Message.{skip, fingerprint, ids, Range, range, upper, spell_payload, spell_range, spell_message}
+use Rattle.message.specs.Message.{fingerprint, ids, Range, range, upper, spell_payload, spell_range, spell_message}
 use Rattle.message.specs.Meaning.{is_skip, prepend, tidy, write_message}
 use Rattle.message.proofs.Meaning.{Tidied, tidy_tidied}
 use Rattle.message.specs.Private.{waiting}

@@ -30,8 +30,7 @@ take_out-left-requires c =
     let due : (marked : ℕ) (label : Label) → Due c.args.count (L marked label) (B) × (c.in-Counted.entering ≡ length c.args.fresh.now) = λ marked label. inquiry_due c.args.count (L marked label) (B) _ _ (rw c.in-Counted.is at (c.inquire_with.ensures.by_index marked label)) in
     let d = (due 0 empty).0 in
     let f = needed-fits (L 0 empty) d.list in
-    let i = c.inquire_with in
-    (
+    let i = c.inquire_with in (
       f.room,
       omega (arith, (right_size (B) d.batch-size).0),
       f.rises,
@@ -50,14 +49,14 @@ overflow_add-result c =
 
 pub returns-in-Refused : goal.returns-in-Refused
 returns-in-Refused c =
-    λ marked label. 
+    λ marked label.
     let B : Table = lent c.args.fresh.now c.args.freshids.now in
     let L : ℕ → Label → Lent = λ marked label. lent_to c.args.times.now c.args.ids.now c.args.needed.now marked label c.args.size c.args.done in
     refused-inquiry c.args.count (L marked label) (B) _ (rw c.in-Refused.is at (c.inquire_with.ensures.by_index marked label))
 
 pub returns-in-Counted : goal.returns-in-Counted
 returns-in-Counted c =
-    λ marked label. 
+    λ marked label.
     let B : Table = lent c.args.fresh.now c.args.freshids.now in
     let L : ℕ → Label → Lent = λ marked label. lent_to c.args.times.now c.args.ids.now c.args.needed.now marked label c.args.size c.args.done in
     let due : (marked : ℕ) (label : Label) → Due c.args.count (L marked label) (B) × (c.in-Counted.entering ≡ length c.args.fresh.now) = λ marked label. inquiry_due c.args.count (L marked label) (B) _ _ (rw c.in-Counted.is at (c.inquire_with.ensures.by_index marked label)) in

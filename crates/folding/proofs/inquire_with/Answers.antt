@@ -48,8 +48,11 @@ returns-in-Refused-check_list c =
     let L : ℕ → Label → Lent = λ marked label. lent_to c.args.times.now c.args.ids.now c.args.needed.now marked label c.args.size c.args.done in
     let tables : (sizes c.args.count (L 0 empty) (B) ≡ false) × (orders c.args.count (L 0 empty) (B) ≡ false) = both-passed 1 2 _ _ (rw c.in-Passed.is at c.check_tables.ensures) in
     let t = tables in
-    record { by_index = λ marked label. rw c.refuse-in-Refused-check_list.ensures
-          (list_refuses c.args.count (L marked label) (B) t.0 t.1 _ (rw c.in-Refused-check_list.is at (c.check_list.ensures c.args.times.now c.args.ids.now marked label))); by_index_2 = λ entering staying e. absurd (not-counted _ c.refuse-in-Refused-check_list.result c.refuse-in-Refused-check_list.ensures entering staying e) }
+    record {
+      by_index = λ marked label. rw c.refuse-in-Refused-check_list.ensures
+          (list_refuses c.args.count (L marked label) (B) t.0 t.1 _ (rw c.in-Refused-check_list.is at (c.check_list.ensures c.args.times.now c.args.ids.now marked label)));
+      by_index_2 = λ entering staying e. absurd (not-counted _ c.refuse-in-Refused-check_list.result c.refuse-in-Refused-check_list.ensures entering staying e);
+    }
 
 pub returns-in-Passed-check_list : goal.returns-in-Passed-check_list
 returns-in-Passed-check_list c =

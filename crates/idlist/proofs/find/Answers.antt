@@ -30,8 +30,7 @@ returns c =
     let f = c.find_between-before in
     let g = c.find_between-behind in
     let h : a.from ≤ f.result = omega (arith, c.if-before-from.false) in
-    let k : a.count ≤ g.result = omega (arith, c.if-behind-count.false) in
-    (
+    let k : a.count ≤ g.result = omega (arith, c.if-behind-count.false) in (
       omega arith,
       stands-nowhere (take 32 a.id.now) a.list.now a.count
           (λ j l. by_test (ltb j a.from)

@@ -1,7 +1,6 @@
 -- `idlist::find_between` meets its contract. The invariant: the ids up to place i are others.
-use Prim.Native.Nat.{◌-◌, ◌<◌}
+use Prim.Native.Nat.{◌<◌}
 use mathlib.Core.Path.{sym, ◌∙◌}
-use mathlib.Core.Bool.{false}
 use native.Mathlib.Omega.{arith}
 use lib.ListN.{take}
 use Rattle.idlist.proofs.Searching.{others-next}

@@ -1,5 +1,4 @@
 -- `idlist::same_bytes` meets its contract. The invariant: what is left of the slices decides.
-use Prim.Native.Nat.{◌-◌}
 use mathlib.Core.Path.{refl, sym, ◌∙◌}
 use native.Mathlib.Omega.{arith}
 use Rattle.idlist.proofs.Searching.{other_length, other_byte, same_byte, no_byte}

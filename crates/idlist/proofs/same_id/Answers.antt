@@ -1,5 +1,5 @@
 -- `idlist::same_id` meets its contract. The invariant: the bytes from `at` on decide which id is below the other.
-use Prim.Native.Nat.{◌-◌, ◌<◌}
+use Prim.Native.Nat.{◌<◌}
 use mathlib.Core.Path.{◌≡◌, refl, sym, ◌∙◌}
 use native.Mathlib.Omega.{arith}
 use lib.Dec.{ltb}

@@ -31,8 +31,7 @@ pub query_answered-requires : goal.query_answered-requires
 query_answered-requires c =
     let table : Table = lent c.args.times.now c.args.ids.now in
     let both : Reads (table) c.args.query.now × Reads (table) c.args.reply.now = let q = c.args.query.now in
-    let r = c.args.reply.now in
-    (
+    let r = c.args.reply.now in (
       reads (table) q (small_bytes q (λ k. omega (arith, c.type_inv.query k))) _ (rw c.in-Ranges.is at c.check_message.ensures),
       reads (table) r (small_bytes r (λ k. omega (arith, c.type_inv.reply k))) _ (rw c.in-Ranges-check_message.is at c.check_message-in-Ranges.ensures),
     ) in
@@ -43,8 +42,7 @@ pub returns-then-not-query_answered : goal.returns-then-not-query_answered
 returns-then-not-query_answered c =
     let table : Table = lent c.args.times.now c.args.ids.now in
     let both : Reads (table) c.args.query.now × Reads (table) c.args.reply.now = let q = c.args.query.now in
-    let r = c.args.reply.now in
-    (
+    let r = c.args.reply.now in (
       reads (table) q (small_bytes q (λ k. omega (arith, c.type_inv.query k))) _ (rw c.in-Ranges.is at c.check_message.ensures),
       reads (table) r (small_bytes r (λ k. omega (arith, c.type_inv.reply k))) _ (rw c.in-Ranges-check_message.is at c.check_message-in-Ranges.ensures),
     ) in
@@ -55,8 +53,7 @@ pub reply_of_table-requires : goal.reply_of_table-requires
 reply_of_table-requires c =
     let table : Table = lent c.args.times.now c.args.ids.now in
     let both : Reads (table) c.args.query.now × Reads (table) c.args.reply.now = let q = c.args.query.now in
-    let r = c.args.reply.now in
-    (
+    let r = c.args.reply.now in (
       reads (table) q (small_bytes q (λ k. omega (arith, c.type_inv.query k))) _ (rw c.in-Ranges.is at c.check_message.ensures),
       reads (table) r (small_bytes r (λ k. omega (arith, c.type_inv.reply k))) _ (rw c.in-Ranges-check_message.is at c.check_message-in-Ranges.ensures),
     ) in
@@ -77,8 +74,7 @@ pub returns-else-not-query_answered : goal.returns-else-not-query_answered
 returns-else-not-query_answered c =
     let table : Table = lent c.args.times.now c.args.ids.now in
     let both : Reads (table) c.args.query.now × Reads (table) c.args.reply.now = let q = c.args.query.now in
-    let r = c.args.reply.now in
-    (
+    let r = c.args.reply.now in (
       reads (table) q (small_bytes q (λ k. omega (arith, c.type_inv.query k))) _ (rw c.in-Ranges.is at c.check_message.ensures),
       reads (table) r (small_bytes r (λ k. omega (arith, c.type_inv.reply k))) _ (rw c.in-Ranges-check_message.is at c.check_message-in-Ranges.ensures),
     ) in

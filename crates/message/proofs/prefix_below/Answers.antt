@@ -1,7 +1,6 @@
 -- `message::prefix_below` meets its contract. The invariant: the first i bytes are equal, and those behind them decide.
 use native.Mathlib.Omega.{arith}
 use mathlib.Core.Path.{sym, ◌∙◌}
-use Prim.Native.Nat.{◌-◌}
 use Rattle.message.proofs.Order.{Small, less_here, more-here, same_here, none_left}
 use Rattle.message.proofs.prefix_below.Goals as goal
 

@@ -1,5 +1,5 @@
 -- `sha256::whole_blocks` meets its contract. The invariant: s is the hash value after i blocks. Assumes nothing.
-use Rattle.std.proofs.Common.{ℕ, ◌-◌, ap, ◌∙◌, arith}
+use Rattle.std.proofs.Common.{ℕ, ap, ◌∙◌, arith}
 use Rattle.sha256.specs.Fips180.{blocks}
 use Rattle.sha256.specs.Private.{value_of}
 use Rattle.sha256.proofs.Padding.{block_more}

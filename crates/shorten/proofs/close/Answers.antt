@@ -13,7 +13,7 @@ use Rattle.shorten.proofs.close.Goals as goal
 
 pub returns-then-not-last_fits : goal.returns-then-not-last_fits
 returns-then-not-last_fits c =
-    λ whole s e. 
+    λ whole s e.
     let table : Table = lent c.args.times.now c.args.own.now in
     let by : Bytes c.args.own.now = small_bytes c.args.own.now (λ k. omega (arith, c.type_inv.own k)) in
     rw c.without_skip.ensures
@@ -31,14 +31,14 @@ overflow_add-result c =
 
 pub returns-then-count-gt0 : goal.returns-then-count-gt0
 returns-then-count-gt0 c =
-    λ whole s e. 
+    λ whole s e.
     let table : Table = lent c.args.times.now c.args.own.now in
     let by : Bytes c.args.own.now = small_bytes c.args.own.now (λ k. omega (arith, c.type_inv.own k)) in
     closes_count c.args.size (table) by c.requires.0 whole c.args.stop s e c.requires.1 (sym c.last_fits.ensures ∙ c.if-not-last_fits.false) c.kept_ids-count.result c.kept_ids-count.ensures c.if-count-gt0.true
 
 pub returns : goal.returns
 returns c =
-    λ whole s e. 
+    λ whole s e.
     let table : Table = lent c.args.times.now c.args.own.now in
     let by : Bytes c.args.own.now = small_bytes c.args.own.now (λ k. omega (arith, c.type_inv.own k)) in
     let none : kept_ids (table) c.args.size c.args.stop ≡ 0 = let n = c.if-count-gt0.false in let k = c.kept_ids-count.ensures in omega arith in

@@ -1,7 +1,7 @@
 -- `tablelabel::check_and_label` meets its contract. The invariant: the items up to i pass check 2, so the table fails it if a later item does, and the label is that
 -- of their ids.
 use native.Mathlib.Omega.{arith}
-use Prim.Native.Nat.{◌+◌, ◌*◌, ◌-◌, ◌≤◌}
+use Prim.Native.Nat.{◌+◌, ◌*◌, ◌≤◌}
 use mathlib.Core.Path.{◌≡◌, ap, ◌∙◌}
 use lib.ListN.{length}
 use Rattle.label.specs.Label.{label_of}
@@ -56,8 +56,7 @@ loop-i-preserved c =
     let size : (length (table_at).ids ≡ 32 * length (table_at).times) × (length (table_at).times ≤ 1048576) = right_size (table_at) (begun).0 in
     let T = table_at in
     let r = c.next_rises in
-    let z = size in
-    (
+    let z = size in (
       omega arith,
       c.loop-i.invariant.1 ∙ next-holds T c.loop-i.i (omega arith) (rw (← r.ensures) c.if-not-next_rises.false),
       label_turn (c.loop-i.i + 1) T.ids _ _ _ (omega arith) (omega arith) c.loop-i.invariant.2 c.of_id.ensures c.add-label.ensures,

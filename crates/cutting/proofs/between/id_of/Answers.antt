@@ -1,5 +1,4 @@
 -- `cutting::between::id_of` meets its contract. The invariant: i bytes are copied.
-use Prim.Native.Nat.{◌-◌}
 use mathlib.Core.Path.{◌≡◌, refl}
 use native.Mathlib.Omega.{arith}
 use lib.ListN.{replicate}

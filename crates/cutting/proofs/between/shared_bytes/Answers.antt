@@ -1,5 +1,4 @@
 -- `cutting::between::shared_bytes` meets its contract. The invariant: k bytes are shared so far, and the others are still to be counted.
-use Prim.Native.Nat.{◌-◌}
 use mathlib.Core.Path.{sym}
 use native.Mathlib.Nat.{zero-add}
 use native.Mathlib.Omega.{arith}

@@ -103,8 +103,7 @@ returns c =
     c.shared_bytes-len.result ≡ shared (take 32 (drop ((a.i - 1) * 32) a.ids.now)) (take 32 (drop (a.i * 32) a.ids.now)) = let a = c.args in
     rw (rest_is ((a.i - 1) * 32) a.ids.now, rest_is (a.i * 32) a.ids.now) at c.shared_bytes-len.ensures in
     let few : c.shared_bytes-len.result < 32 = shared-below (table) c.requires.0 c.args.i c.requires.1 c.requires.2 c.if-times-before.false c.shared_bytes-len.result (counted) in
-    let id : c.id_of-prefix.result ≡ take 32 (drop (c.args.i * 32) c.args.ids.now) = rw (rest_is (c.args.i * 32) c.args.ids.now) at c.id_of-prefix.ensures in
-    (
+    let id : c.id_of-prefix.result ≡ take 32 (drop (c.args.i * 32) c.args.ids.now) = rw (rest_is (c.args.i * 32) c.args.ids.now) at c.id_of-prefix.ensures in (
       rw id (bound-by-id (table) c.requires.0 c.args.i c.requires.1 c.requires.2 c.if-times-before.false c.shared_bytes-len.result (counted)),
       (time-small (table) c.requires.0 c.args.i c.requires.2, omega (arith, few)),
     )

@@ -6,7 +6,7 @@ use Rattle.cutting.proofs.ranges.fingerprint_bytes.Goals as goal
 
 pub returns-in-Measure : goal.returns-in-Measure
 returns-in-Measure c =
-    λ e. 
+    λ e.
     let z = rw c.in-Measure.is at e in
     differ (cc)
 

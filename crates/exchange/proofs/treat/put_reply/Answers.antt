@@ -56,8 +56,7 @@ loop-walk-preserved c =
     let st = c.step-step.result in
     HandsOver (writes c.args.pass) (treat (given c.args.listing) (cut_of c.args.cut) (items (table)) (lower_at l.walk.cursor) (upper_of st.span) (payload_of st.payload c.args.m.now)) (after l.answer (buffer_of c.args.pass l.out)) (after c.put_treated-answer.result (buffer_of c.args.pass c.put_treated-answer.new.out)) = let l = c.loop-walk in
     rw (after-before l.answer (buffer_of c.args.pass l.out) l.invariant.0.none-refused) (c.put_treated-answer.ensures (lower_at l.walk.cursor) c.step-step.ensures.own) in
-    let l = c.loop-walk in
-    (
+    let l = c.loop-walk in (
       treated_next _ _ (table) _ _ _ l.walk _ l.invariant.0 c.step-step.result c.step-step.ensures _ (one) (ap verdict_of c.in-Taken.is),
       c.put_treated-answer.auto.out ∙ l.invariant.1,
     )

@@ -36,8 +36,7 @@ loop-walk-smaller c =
 pub loop-walk-preserved : goal.loop-walk-preserved
 loop-walk-preserved c =
     let table : Table = lent c.args.times.now c.args.own.now in
-    let l = c.loop-walk in
-    (
+    let l = c.loop-walk in (
       c.step-step.ensures.next,
       skips-next (table) _ l.walk l.invariant.1 c.step-step.result c.step-step.ensures (sym c.gives_skip.ensures ∙ c.if-not-gives_skip.false),
     )

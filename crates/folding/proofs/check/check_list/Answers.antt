@@ -11,13 +11,13 @@ use Rattle.folding.proofs.check.check_list.Goals as goal
 
 pub returns-then-not-needed_fits : goal.returns-then-not-needed_fits
 returns-then-not-needed_fits c =
-    λ times ids marked label. 
+    λ times ids marked label.
     let a = c.args in
     rw (told_wrong (lent_to times ids a.needed.now marked label a.size a.done) c.needed_fits.result c.needed_fits.ensures c.if-not-needed_fits.true) refl
 
 pub returns-then-not-done : goal.returns-then-not-done
 returns-then-not-done c =
-    λ times ids marked label. 
+    λ times ids marked label.
     let right : (times ids : List ℕ) (marked : ℕ) (label : Label) → wrong_needed (lent_to times ids c.args.needed.now marked label c.args.size c.args.done) ≡ false = λ times ids marked label. let a = c.args in
     told_right (lent_to times ids a.needed.now marked label a.size a.done) c.needed_fits.result c.needed_fits.ensures c.if-not-needed_fits.false in
     let e : c.args.done ≡ false = c.if-not-done.true in
@@ -25,7 +25,7 @@ returns-then-not-done c =
 
 pub returns : goal.returns
 returns c =
-    λ times ids marked label. 
+    λ times ids marked label.
     let right : (times ids : List ℕ) (marked : ℕ) (label : Label) → wrong_needed (lent_to times ids c.args.needed.now marked label c.args.size c.args.done) ≡ false = λ times ids marked label. let a = c.args in
     told_right (lent_to times ids a.needed.now marked label a.size a.done) c.needed_fits.result c.needed_fits.ensures c.if-not-needed_fits.false in
     let e : c.args.done ≡ true = c.if-not-done.false in

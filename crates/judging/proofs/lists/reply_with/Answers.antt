@@ -42,8 +42,7 @@ loop-walk-preserved c =
     let table : Table = lent c.args.times.now c.args.own.now in
     let l = c.loop-walk in
     let t = c.step-step in
-    let r = c.of_table in
-    (
+    let r = c.of_table in (
       t.ensures.next,
       l.invariant.1 ∙ truth-next (table) c.args.reply.now l.walk t.result t.ensures (sym c.if-not-of_table.false ∙ r.ensures),
       r.auto.words ∙ l.invariant.2,

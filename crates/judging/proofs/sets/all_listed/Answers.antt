@@ -85,8 +85,7 @@ loop-i-preserved c =
     let a = c.args in
     let g = ranges in
     let b = block in
-    let t = c.contains_each in
-    (
+    let t = c.contains_each in (
       omega arith,
       t.auto.words ∙ c.loop-i.invariant.1,
       t.auto.pos ∙ c.loop-i.invariant.2,

@@ -1,5 +1,5 @@
 -- `label::Label::of_ids` meets its contract. The invariant: the label is that of the first i ids.
-use Rattle.std.proofs.Common.{ℕ, ◌-◌, ap, ◌∙◌, arith, length-drop, length-take}
+use Rattle.std.proofs.Common.{ℕ, ap, ◌∙◌, arith, length-drop, length-take}
 use Rattle.message.specs.Code.{ids_in}
 use Rattle.label.specs.Label.{label_of}
 use Rattle.label.specs.Code.{whole_ids}

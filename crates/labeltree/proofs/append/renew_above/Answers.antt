@@ -24,8 +24,7 @@ loop-left-preserved c =
     let r = c.renew in
     let a = c.args in
     let kept = r.auto.tree in
-    let some : 0 < l.left = omega arith in
-    (
+    let some : 0 < l.left = omega arith in (
       renew_turn l.left l.at l.tree r.new.tree (renew_above a.levels a.i a.tree.now) some l.invariant.0 r.ensures,
       (
         subst (λ (n : ℕ). Above n (l.left - 1) ((l.at - 1) / 2)) (sym kept) (above-next (length l.tree) l.left l.at some l.invariant.1.0),

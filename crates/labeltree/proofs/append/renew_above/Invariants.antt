@@ -1,5 +1,4 @@
 use mathlib.Core.Path.{◌≡◌}
-use Prim.Native.Nat.{◌-◌}
 use lib.ListN.{length}
 use Rattle.tree.specs.Tree.{renew_above}
 use Rattle.tree.specs.Private.{Above}

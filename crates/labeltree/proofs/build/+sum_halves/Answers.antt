@@ -15,8 +15,7 @@ sum_halves-requires t c =
 -- the right half
 pub sum_halves-requires-2 : goal.sum_halves-requires-2
 sum_halves-requires-2 t c =
-    let a = c.args in
-    (
+    let a = c.args in (
       omega (arith, c.decreases),
       subst (λ (n : ℕ). 40 * ((2 * a.at + 2 + 2) * 2 ^ (a.level - 1)) ≤ n + 40) (sym c.sum_halves.auto.tree) (renew_right (length a.tree.now) a.level a.at c.if-level-eq0.false c.requires),
     )

@@ -1,6 +1,6 @@
 -- `labeltree::build::store_places` meets its contract. The invariant: the places before this one are stored.
 use mathlib.Core.Path.{◌≡◌, refl, ap, ◌∙◌}
-use Prim.Native.Nat.{ℕ, ◌-◌}
+use Prim.Native.Nat.{ℕ}
 use native.Mathlib.Omega.{arith}
 use Rattle.label.specs.Code.{label_in, whole_ids}
 use Rattle.tree.specs.Private.{placed}
@@ -16,8 +16,7 @@ loop-place-preserved c =
     let l = c.loop-place in
     let p = c.label_of_place in
     let w = c.put_label in
-    let kept = w.auto.tree in
-    (
+    let kept = w.auto.tree in (
       place_turn a.places l.place (whole_ids a.ids.now) a.tree.now l.tree w.new.tree (label_in p.result) l.invariant.0 p.ensures w.ensures,
       (omega arith, kept ∙ l.invariant.1.1),
     )

@@ -1,6 +1,6 @@
 -- `labeltree::depth::depth_of` meets its contract. The invariant: `places` is 2 to the power `levels`, and no smaller power is enough.
 use mathlib.Core.Path.{refl, ap, ◌∙◌}
-use Prim.Native.Nat.{ℕ, ◌-◌, ◌^◌}
+use Prim.Native.Nat.{ℕ, ◌^◌}
 use native.Mathlib.Omega.{arith}
 use Rattle.tree.proofs.Levels.{power, double}
 use Rattle.tree.proofs.Depth.{below_power, deeper, deep_enough}

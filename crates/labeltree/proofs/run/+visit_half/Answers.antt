@@ -2,7 +2,7 @@
 use Rattle.std.proofs.Common.{◌+◌, ◌-◌, ◌*◌, ◌/◌, length, sym, ◌∙◌, arith}
 use Rattle.label.specs.Code.{label_in}
 use Rattle.tree.proofs.Places.{empty-label}
-use Rattle.tree.proofs.Halves.{reach_room, reach_end, reach_visits, reach_left, reach_right, found-outside, found_inside, found_halves, found-few}
+use Rattle.tree.proofs.Halves.{reach_visits, reach_left, reach_right, found-outside, found_inside, found_halves, found-few}
 use Rattle.labeltree.specs.Code.{found_in}
 use Rattle.labeltree.proofs.run.+visit_half.Goals as goal
 

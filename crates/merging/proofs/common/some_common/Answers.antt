@@ -34,8 +34,7 @@ pub loop-i-preserved-then-item_below : goal.loop-i-preserved-then-item_below
 loop-i-preserved-then-item_below c =
     let ours : Table = lent c.args.times.now c.args.ids.now in
     let batch : Table = lent c.args.fresh.now c.args.freshids.now in
-    let l = c.loop-i in
-    (
+    let l = c.loop-i in (
       omega arith,
       omega arith,
       l.invariant.2 ∙ ours-lower (ours) (batch) c.requires.0 c.requires.1 l.i l.j (omega arith) (omega arith) _ c.item_below.ensures c.if-item_below.true,
@@ -65,8 +64,7 @@ pub loop-i-preserved : goal.loop-i-preserved
 loop-i-preserved c =
     let ours : Table = lent c.args.times.now c.args.ids.now in
     let batch : Table = lent c.args.fresh.now c.args.freshids.now in
-    let l = c.loop-i in
-    (
+    let l = c.loop-i in (
       omega arith,
       omega arith,
       l.invariant.2 ∙ batch-lower (ours) (batch) c.requires.0 c.requires.1 l.i l.j (omega arith) (omega arith)

@@ -1,5 +1,4 @@
 -- `reader::check::check_message` meets its contract. The invariant: `count` ranges and those from the cursor on are the ranges of the message.
-use Prim.Native.Nat.{◌-◌}
 use mathlib.Core.Path.{sym, ◌∙◌}
 use native.Mathlib.Omega.{arith}
 use lib.ListN.{length}

@@ -1,5 +1,4 @@
 -- `reader::range::pad` meets its contract. The invariant: the first i bytes are copied, and zeros follow.
-use Prim.Native.Nat.{◌-◌}
 use mathlib.Core.Path.{refl}
 use native.Mathlib.Omega.{arith}
 use Rattle.reader.specs.Answers.{padded}

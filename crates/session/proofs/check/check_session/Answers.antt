@@ -13,7 +13,7 @@ use Rattle.session.proofs.check.check_session.Goals as goal
 
 pub returns-then-not-state_fits : goal.returns-then-not-state_fits
 returns-then-not-state_fits c =
-    λ times ids out n e. 
+    λ times ids out n e.
     let wrong : List ℕ → List ℕ → List ℕ → Bool = λ times ids out. let l = lent_to c.args.session c.args.marks.now c.args.needed.now out in
     wrong_buffers (lent times ids) l || wrong_contents l in
     let other : List ℕ → List ℕ → Bool = λ times ids. other_label (lent times ids) (session_in c.args.session) in
@@ -21,7 +21,7 @@ returns-then-not-state_fits c =
 
 pub returns-then-not-same : goal.returns-then-not-same
 returns-then-not-same c =
-    λ times ids out n e. 
+    λ times ids out n e.
     let wrong : List ℕ → List ℕ → List ℕ → Bool = λ times ids out. let l = lent_to c.args.session c.args.marks.now c.args.needed.now out in
     wrong_buffers (lent times ids) l || wrong_contents l in
     let other : List ℕ → List ℕ → Bool = λ times ids. other_label (lent times ids) (session_in c.args.session) in
@@ -31,7 +31,7 @@ returns-then-not-same c =
 
 pub returns-then-session : goal.returns-then-session
 returns-then-session c =
-    λ times ids out n e. 
+    λ times ids out n e.
     let wrong : List ℕ → List ℕ → List ℕ → Bool = λ times ids out. let l = lent_to c.args.session c.args.marks.now c.args.needed.now out in
     wrong_buffers (lent times ids) l || wrong_contents l in
     let other : List ℕ → List ℕ → Bool = λ times ids. other_label (lent times ids) (session_in c.args.session) in
@@ -41,7 +41,7 @@ returns-then-session c =
 
 pub returns : goal.returns
 returns c =
-    λ times ids out n e. 
+    λ times ids out n e.
     let wrong : List ℕ → List ℕ → List ℕ → Bool = λ times ids out. let l = lent_to c.args.session c.args.marks.now c.args.needed.now out in
     wrong_buffers (lent times ids) l || wrong_contents l in
     let other : List ℕ → List ℕ → Bool = λ times ids. other_label (lent times ids) (session_in c.args.session) in

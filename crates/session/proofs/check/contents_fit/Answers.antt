@@ -9,20 +9,20 @@ use Rattle.session.proofs.check.contents_fit.Goals as goal
 
 pub returns-then-some_above_one : goal.returns-then-some_above_one
 returns-then-some_above_one c =
-    λ out. 
+    λ out.
     let a = c.args in
     mark_wrong a.session a.marks.now a.needed.now out (sym c.if-some_above_one.true ∙ c.some_above_one.ensures)
 
 pub returns-then-session-count_ones : goal.returns-then-session-count_ones
 returns-then-session-count_ones c =
-    λ out. 
+    λ out.
     let low : false ≡ some (ltb 1) c.args.marks.now = sym c.if-some_above_one.false ∙ c.some_above_one.ensures in
     let a = c.args in
     count_wrong a.session a.marks.now a.needed.now out (low) (λ e. c.if-session-count_ones.true (e ∙ sym c.count_ones.ensures))
 
 pub returns-then-needed-session : goal.returns-then-needed-session
 returns-then-needed-session c =
-    λ out. 
+    λ out.
     let low : false ≡ some (ltb 1) c.args.marks.now = sym c.if-some_above_one.false ∙ c.some_above_one.ensures in
     let counted : c.args.session.marked ≡ ones c.args.marks.now = c.if-session-count_ones.false ∙ c.count_ones.ensures in
     let a = c.args in
@@ -30,7 +30,7 @@ returns-then-needed-session c =
 
 pub returns : goal.returns
 returns c =
-    λ out. 
+    λ out.
     let low : false ≡ some (ltb 1) c.args.marks.now = sym c.if-some_above_one.false ∙ c.some_above_one.ensures in
     let counted : c.args.session.marked ≡ ones c.args.marks.now = c.if-session-count_ones.false ∙ c.count_ones.ensures in
     let a = c.args in

@@ -6,12 +6,12 @@ use Rattle.session.proofs.check.state_fits.Goals as goal
 
 pub returns-then-not-buffers_fit : goal.returns-then-not-buffers_fit
 returns-then-not-buffers_fit c =
-    λ times ids out e. 
+    λ times ids out e.
     let a = c.args in
     buffers_decide a.session a.marks.now a.needed.now out times ids a.n _ c.buffers_fit.ensures e (ap not c.if-not-buffers_fit.true)
 
 pub returns : goal.returns
 returns c =
-    λ times ids out e. 
+    λ times ids out e.
     let a = c.args in
     contents_decide a.session a.marks.now a.needed.now out times ids a.n _ c.buffers_fit.ensures e (ap not c.if-not-buffers_fit.false) (c.contents_fit.ensures out)

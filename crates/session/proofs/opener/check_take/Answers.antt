@@ -18,13 +18,13 @@ use Rattle.session.proofs.opener.check_take.Goals as goal
 
 pub returns-in-Refused : goal.returns-in-Refused
 returns-in-Refused c =
-    λ out. 
+    λ out.
     let table : Table = lent c.args.times.now c.args.ids.now in
     end_refused (limit_of c.args.limit) (table) (cut_of c.args.cut) _ _ _ (λ e. not-both (sym e)) (rw c.in-Refused.is at c.check_labelled-table.ensures.checked_value)
 
 pub returns-in-Refused-check_session : goal.returns-in-Refused-check_session
 returns-in-Refused-check_session c =
-    λ out. 
+    λ out.
     let table : Table = lent c.args.times.now c.args.ids.now in
     let wrong : List ℕ → Bool = λ out. let l = lent_to c.args.session c.args.marks.now c.args.needed.now out in
     wrong_buffers (table) l || wrong_contents l in
@@ -37,7 +37,7 @@ returns-in-Refused-check_session c =
 
 pub returns-in-Passed-check_session : goal.returns-in-Passed-check_session
 returns-in-Passed-check_session c =
-    λ out. 
+    λ out.
     let table : Table = lent c.args.times.now c.args.ids.now in
     let wrong : List ℕ → Bool = λ out. let l = lent_to c.args.session c.args.marks.now c.args.needed.now out in
     wrong_buffers (table) l || wrong_contents l in

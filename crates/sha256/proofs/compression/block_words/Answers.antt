@@ -1,5 +1,5 @@
 -- `sha256::compression::block_words` meets its contract. The invariant: the first t words are the block's. Assumes nothing.
-use Rattle.std.proofs.Common.{◌≡◌, ℕ, ◌-◌, ◌*◌, take, drop, sym, refl, ap, ◌∙◌, arith, length-set}
+use Rattle.std.proofs.Common.{◌≡◌, ℕ, ◌*◌, take, drop, sym, refl, ap, ◌∙◌, arith, length-set}
 use lib.ListN.{length-replicate}
 use Rattle.sha256.specs.Fips180.{words}
 use Rattle.sha256.proofs.Rounds.{word_in, word_more}
@@ -13,8 +13,7 @@ pub loop-t-preserved : goal.loop-t-preserved
 loop-t-preserved c =
     let turn = c.loop-t in
     let start = c.args in
-    let m = start.m.now in
-    (
+    let m = start.m.now in (
       omega arith,
       simp length-set turn.invariant.1,
       word_more turn.w (take 64 (drop start.at m)) turn.t c.word_at.result (omega arith) turn.invariant.2

@@ -1,5 +1,5 @@
 -- `sha256::compression::rounds` meets its contract. The invariant: v is what t rounds make of s, and t is a multiple of eight. Assumes nothing.
-use Rattle.std.proofs.Common.{ℕ, ◌-◌, refl, ap, ◌∙◌, arith}
+use Rattle.std.proofs.Common.{ℕ, refl, ap, ◌∙◌, arith}
 use Rattle.sha256.specs.Fips180.{K, rounds}
 use Rattle.sha256.specs.Private.{value_of}
 use Rattle.sha256.proofs.compression.rounds.Goals as goal

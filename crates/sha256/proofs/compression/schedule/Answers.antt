@@ -11,8 +11,7 @@ loop-t-init c = (omega arith, omega arith, search rules, c.block_words-w.ensures
 pub loop-t-preserved : goal.loop-t-preserved
 loop-t-preserved c =
     let turn = c.loop-t in
-    let start = c.args in
-    (
+    let start = c.args in (
       omega arith,
       omega arith,
       simp length-set turn.invariant.2,

@@ -1,6 +1,5 @@
 -- `table::check::check_table` meets its contract. The invariant: the items up to i pass check 2, so the table fails it if a later item does.
 use native.Mathlib.Omega.{arith}
-use Prim.Native.Nat.{◌-◌}
 use mathlib.Core.Path.{◌∙◌}
 use Rattle.table.specs.Answer.{answer}
 use Rattle.table.specs.Code.{lent}

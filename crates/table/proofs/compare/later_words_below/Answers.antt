@@ -1,6 +1,5 @@
 -- `table::compare::later_words_below` meets its contract. The invariant: the words before `at` are equal, and the bytes from `at` on decide.
 use native.Mathlib.Omega.{arith}
-use Prim.Native.Nat.{◌-◌}
 use mathlib.Core.Path.{◌≡◌, sym, ◌∙◌}
 use Rattle.message.proofs.Order.{Small}
 use Rattle.table.proofs.Words.{word_less, word_more, word_same, no_word}

@@ -1,5 +1,4 @@
 -- `writer::varint::write_bytes` meets its contract. The invariant: i bytes are copied.
-use Prim.Native.Nat.{◌-◌}
 use mathlib.Core.Path.{refl}
 use native.Mathlib.Omega.{arith}
 use lib.ListN.{length-set}

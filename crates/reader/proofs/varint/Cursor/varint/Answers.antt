@@ -1,5 +1,4 @@
 -- `reader::varint::Cursor::varint` meets its contract. The invariant: the digits from place i on, v being read so far, come to what the whole varint comes to.
-use Prim.Native.Nat.{◌-◌}
 use mathlib.Core.Path.{sym, ◌∙◌}
 use native.Mathlib.Omega.{arith}
 use Rattle.reader.proofs.ReadingVarints.{digits_end, digits_past, digits_last, digits_more, varint_end, varint_padded, varint_digits}

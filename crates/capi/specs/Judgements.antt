@@ -1,7 +1,7 @@
 -- What the judge answers.
 use Rattle.std.specs.Prelude.{Bool, false}
 use Rattle.table.specs.Answer.{Answer, answer, refused}
-use Rattle.capi.specs.declared.judge.Judgement.{Judgement}
+use Rattle.capi.specs.declared.replies.Judgement.{Judgement}
 
 -- the number 0, and yes or no; the number of the refusal and no
 abbrev pub told_judgement : Answer Bool → Judgement

@@ -23,7 +23,7 @@ use table::Checked;
 
 pub mod convert;
 pub mod folds;
-pub mod judge;
+pub mod replies;
 pub mod trees;
 pub mod within;
 

@@ -1,7 +1,7 @@
 #!/usr/bin/env python3
 """Respells the names that specs/ and proofs/ declare, as today's Rattle spells names: words in snake case, `′` is `'`.
 
-Run once, right after /opt/rattle/port/port.py, at the top of the repository. A name in camel case that begins with a small letter gets underscores
+Run once, right after the kit's port.py, at the top of the repository. A name in camel case that begins with a small letter gets underscores
 (`judgeTable`: `judge_table`), and so does one with dashes (`true-and-complete`: `true_and_complete`), but for a lone dash that joins the
 names of two definitions, which stays (`cut-ids`). Where two names would fall together the lemma gets `_lem`. Types, modules, functions of src/, exported names and the names that the check generates stay as they are."""
 import collections

@@ -171,6 +171,13 @@ module _ (p q : List ℕ) (i : ℕ) (sp : Small p) (sq : Small q) where
       let e : get_or p i 0 ≡ get_or q i 0 = omega arith in
       rw (left h) (step (32 - (i + 1)) ∙ rw e (digit-same (get_or q i 0 * 256 ^ (32 - (i + 1))) (big_endian (32 - (i + 1)) (drop (i + 1) p)) (big_endian (32 - (i + 1)) (drop (i + 1) q))))
 
+  pub differ_here : i < 32 → (get_or p i 0 ≡ get_or q i 0 → ⊥) → ltb (get_or p i 0) (get_or q i 0) ≡ ltb (big_endian (32 - i) (drop i p)) (big_endian (32 - i) (drop i q))
+  differ_here h ne =
+      elim (dec_lt (get_or p i 0) (get_or q i 0)) [
+        | yes l ↦ lt-ltb _ _ l ∙ sym (less_here h l)
+        | no l ↦ let m : get_or q i 0 < get_or p i 0 = omega (arith, ne) in le-ltb _ _ (omega arith) ∙ sym (more-here h m)
+      ]
+
 pub none_left : (p q : List ℕ) (i : ℕ) → 32 ≤ i → ltb (big_endian (32 - i) (drop i p)) (big_endian (32 - i) (drop i q)) ≡ false
 unfolding big_endian
 none_left p q i h = let e : 32 - i ≡ 0 = omega arith in rw e refl

@@ -6,21 +6,21 @@ ghost use Rattle.std.specs.Prelude.{◌≡◌, [], ltb, get_or};
 ghost use Rattle.message.specs.Bound as spec;
 ghost use Rattle.message.specs.Code.{number_of, bound_of};
 
-// Why a call of the message layer is refused. `number_of` in specs/Code.antt gives the number of each kind.
-#[derive(Clone, Copy)]
+// Why a call of the message layer is refused, each kind with its number.
+#[derive(Clone, Copy, Debug, PartialEq, Eq)]
 pub enum Refusal {
-    // 6: the message is empty or its first byte is not 61
-    WrongVersion,
-    // 7: the message ends inside a range
-    Truncated,
-    // 8: a varint starts with 80 or passes 2^64 - 1
-    BadVarint,
-    // 9: a bound has a time or a prefix that it cannot have, or is not above its lower bound
-    BadBound,
-    // 10: a mode is above 2
-    BadMode,
-    // 12: the message to be written is longer than the out buffer
-    NoRoom,
+    // the message is empty or its first byte is not 61
+    WrongVersion = 6,
+    // the message ends inside a range
+    Truncated = 7,
+    // a varint starts with 80 or passes 2^64 - 1
+    BadVarint = 8,
+    // a bound has a time or a prefix that it cannot have, or is not above its lower bound
+    BadBound = 9,
+    // a mode is above 2
+    BadMode = 10,
+    // the message to be written is longer than the out buffer
+    NoRoom = 12,
 }
 
 impl Refusal {
@@ -28,14 +28,7 @@ impl Refusal {
     pub fn number(self) -> u64
         ensures { result ≡ number_of self }
     {
-        match self {
-            Refusal::WrongVersion => 6,
-            Refusal::Truncated => 7,
-            Refusal::BadVarint => 8,
-            Refusal::BadBound => 9,
-            Refusal::BadMode => 10,
-            Refusal::NoRoom => 12,
-        }
+        self as u64
     }
 }
 
@@ -68,8 +61,8 @@ impl Bound {
         ensures { result ≡ spec.time (bound_of self []) }
     {
         match self {
-            Bound::Infinity => 18446744073709551615,
-            Bound::At { time, len: _ } => time,
+            Bound::Infinity => u64::MAX,
+            Bound::At { time, .. } => time,
         }
     }
 
@@ -79,41 +72,21 @@ impl Bound {
     {
         match self {
             Bound::Infinity => &bytes[..0],
-            Bound::At { time: _, len } => {
-                if len < bytes.len() {
-                    return &bytes[..len];
-                }
-                bytes
-            }
+            Bound::At { len, .. } => &bytes[..len.min(bytes.len())],
         }
     }
 }
 
-// The byte at place i, a missing byte 00.
-fn byte_or_zero(p: &[u8], i: usize) -> u8
-    ensures { result ≡ get_or p.now i 0 }
-{
-    if i < p.len() {
-        return p[i];
-    }
-    0
-}
-
-// Whether the prefix p comes before the prefix q: byte by byte from the first.
+// Whether the prefix p comes before the prefix q: byte by byte from the first, a missing byte 00.
 fn prefix_below(p: &[u8], q: &[u8]) -> bool
     ensures { result ≡ ltb (spec.big_endian 32 p.now) (spec.big_endian 32 q.now) }
 {
-    let mut i = 0;
-    while i < 32 {
-        let x = byte_or_zero(p, i);
-        let y = byte_or_zero(q, i);
-        if x < y {
-            return true;
+    for i in 0..32 {
+        let x = p.get(i).copied().unwrap_or(0);
+        let y = q.get(i).copied().unwrap_or(0);
+        if x != y {
+            return x < y;
         }
-        if y < x {
-            return false;
-        }
-        i += 1;
     }
     false
 }
@@ -122,11 +95,5 @@ fn prefix_below(p: &[u8], q: &[u8]) -> bool
 pub fn below(t: u64, p: &[u8], u: u64, q: &[u8]) -> bool
     ensures { result ≡ ltb (spec.key (spec.finite t p.now)) (spec.key (spec.finite u q.now)) }
 {
-    if t < u {
-        return true;
-    }
-    if u < t {
-        return false;
-    }
-    prefix_below(p, q)
+    t < u || t == u && prefix_below(p, q)
 }

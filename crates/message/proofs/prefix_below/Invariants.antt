@@ -8,6 +8,3 @@ use Rattle.message.proofs.prefix_below.Given as goal
 abbrev pub invariant-loop-i : goal.invariant-loop-i
 invariant-loop-i l =
     ltb (big_endian 32 l.p) (big_endian 32 l.q) ≡ ltb (big_endian (32 - l.i) (drop l.i l.p)) (big_endian (32 - l.i) (drop l.i l.q))
-
-abbrev pub decreases-loop-i : goal.decreases-loop-i
-decreases-loop-i l = 32 - l.i

@@ -1,15 +1,15 @@
 -- For contracts of functions of our own that hand ranges to the writer: which ranges they handed over.
-use Rattle.std.specs.Prelude.{◌≡◌, Bool, true, false, cond, List, [], ◌∷◌, ◌++◌, ℕ, length, replicate}
+use Rattle.std.specs.Prelude.{Result, ◌≡◌, Bool, true, false, cond, List, [], ◌∷◌, ◌++◌, ℕ, length, replicate}
 use Rattle.message.specs.Bound.{time, start}
 use Rattle.message.specs.Message.{skip, Range, range}
 use Rattle.message.specs.Meaning.{tidy, write_message}
 use Rattle.message.specs.Private.{waiting, last_upper}
 use Rattle.message.specs.WellFormed.{All}
+use Rattle.message.specs.declared.Refusal.{Refusal}
 use Rattle.writer.specs.Writing.{Verdict, taken, refused, verdict_of, lower_of}
 use Rattle.writer.specs.Private.{Lawful, Inside}
 use Rattle.writer.specs.Stream.{Handed, meant, State, hand_over}
 use Rattle.writer.specs.declared.write.Pass.{Pass}
-use Rattle.writer.specs.declared.write.Write.{Write}
 use Rattle.writer.specs.declared.write.Writer.{Writer}
 
 abbrev pub is_taken : Verdict → Bool
@@ -32,9 +32,9 @@ pub record Follows (rs : List Range) (w : Writer) : Type 0 where
   pub same : w.pending ≡ false → time (lower_of w) ≡ w.time
   pub wait : waiting rs ≡ cond w.pending (range (lower_of w) skip ∷ []) []
 
--- what such a function answers, and the buffer afterwards
-abbrev pub after : Write → List ℕ → State
-after r out = record { verdict = verdict_of r.written; writer = r.next; out = out }
+-- what such a function answers, and the writer and the buffer afterwards
+abbrev pub after : Result (Unit {0}) Refusal → Writer → List ℕ → State
+after r w out = record { verdict = verdict_of r; writer = w; out = out }
 
 -- the bound is lawful, save for the order, and the payload stands in its source
 abbrev pub Fit : Handed → Type 0

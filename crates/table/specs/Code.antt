@@ -1,9 +1,8 @@
 -- What the values of the code's types mean.
-use Rattle.std.specs.Prelude.{ℕ, List}
+use Rattle.std.specs.Prelude.{Result, Ok, Err, ℕ, List}
 use Rattle.table.specs.Answer.{Answer, answer, refused}
 use Rattle.table.specs.Table.{Table}
 use Rattle.table.specs.declared.Refusal.{Refusal}
-use Rattle.table.specs.declared.Checked.{Checked}
 
 -- the number that each refusal has under SPEC 7, "Refusals, in checking order"
 abbrev pub number_of : Refusal → ℕ
@@ -26,9 +25,13 @@ number_of Refusal.NotDue = 16
 number_of Refusal.TableFull = 17
 number_of Refusal.OtherTable = 18
 
-abbrev pub checked_of : Checked → Answer (Unit {0})
-checked_of Checked.Passed = answer tt
-checked_of (Checked.Refused k) = refused (number_of k)
+-- what a call answers, seen by `view`, or the number of the refusal
+abbrev pub answer_by : {A B : Type 0} → (A → B) → Result A Refusal → Answer B
+answer_by view (Ok a) = answer (view a)
+answer_by view (Err k) = refused (number_of k)
+
+abbrev pub answer_of : {A : Type 0} → Result A Refusal → Answer A
+answer_of r = answer_by (λ a. a) r
 
 -- the table lent as two slices
 abbrev pub lent : List ℕ → List ℕ → Table

@@ -42,11 +42,8 @@ impl RangeCursor {
     pub fn range(self, m: &[u8]) -> Result<RangeRead, Refusal>
         ensures { ReadAt m.now self result }
     {
-        let Read { value: upper, next } = Cursor { at: self.at }.bound(
-            m,
-            self.lower,
-            &self.prefix,
-        )?;
+        let cursor = Cursor { at: self.at };
+        let Read { value: upper, next } = cursor.bound(m, self.lower, &self.prefix)?;
         let Read {
             value: payload,
             next,

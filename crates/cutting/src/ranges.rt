@@ -20,26 +20,24 @@ ghost use Rattle.cutting.specs.Private.{run, own_in, upper_of, Inside};
 use crate::between::{Placed, shortest_bound};
 use crate::{Cut, Span, part_size};
 use label::Label;
-use message::{Payload, Range};
-use writer::varint::Written;
-use writer::write::{Pass, Write, Writer};
+use message::{Payload, Range, Refusal};
+use writer::write::{Pass, Writer};
 
 // One range with all own ids of the span, in table order.
 pub fn put_ids(
-    writer: Writer,
+    writer: &mut Writer,
     out: &mut [u8],
     pass: Pass,
     times: &[u64],
     own: &[u8],
     span: Span,
-) -> Write
+) -> Result<(), Refusal>
     requires { Passed (lent times.now own.now) × Inside (lent times.now own.now) span }
-    ensures { HandsOver (writes pass) (range (upper_of span) (ids (ids_of (own_in (lent times.now own.now) span))) ∷ []) (before writer (buffer_of pass out.old)) (after result (buffer_of pass out.new)) }
+    ensures { HandsOver (writes pass) (range (upper_of span) (ids (ids_of (own_in (lent times.now own.now) span))) ∷ []) (before writer.old (buffer_of pass out.old)) (after result writer.new (buffer_of pass out.new)) }
 {
-    let bound = span.bound;
     let prefix = span.prefix;
     let range = Range {
-        bound,
+        bound: span.bound,
         prefix,
         payload: Payload::Ids {
             count: span.hi - span.lo,
@@ -54,14 +52,14 @@ fn fingerprint_bytes(pass: Pass, ids: &[u8]) -> [u8; 16]
     ensures { writes pass ≡ true → result ≡ labels.fingerprint (labels.label_of (whole_ids ids.now)) }
 {
     match pass {
-        Pass::Measure { size: _ } => [0u8; 16],
+        Pass::Measure { .. } => [0u8; 16],
         Pass::Write => Label::of_ids(ids).fingerprint(),
     }
 }
 
 // One range with the fingerprint of the items from place `at` up to place `end`.
 pub fn put_fingerprint(
-    writer: Writer,
+    writer: &mut Writer,
     out: &mut [u8],
     pass: Pass,
     times: &[u64],
@@ -69,17 +67,14 @@ pub fn put_fingerprint(
     at: usize,
     end: usize,
     upper: Placed,
-) -> Write
+) -> Result<(), Refusal>
     requires { Passed (lent times.now own.now) × (at ≤ end) × (end ≤ length times.now) × Lawful upper.bound }
-    ensures { HandsOver (writes pass) (range (bound_of upper.bound upper.prefix) (fingerprint (spec.fingerprint_of (run (lent times.now own.now) at end))) ∷ []) (before writer (buffer_of pass out.old)) (after result (buffer_of pass out.new)) }
+    ensures { HandsOver (writes pass) (range (bound_of upper.bound upper.prefix) (fingerprint (spec.fingerprint_of (run (lent times.now own.now) at end))) ∷ []) (before writer.old (buffer_of pass out.old)) (after result writer.new (buffer_of pass out.new)) }
 {
-    let first = at * 32;
-    let last = end * 32;
-    let source = fingerprint_bytes(pass, &own[first..last]);
-    let bound = upper.bound;
+    let source = fingerprint_bytes(pass, &own[at * 32..end * 32]);
     let prefix = upper.prefix;
     let range = Range {
-        bound,
+        bound: upper.bound,
         prefix,
         payload: Payload::Fingerprint { at: 0 },
     };
@@ -94,65 +89,53 @@ fn upper_at(times: &[u64], own: &[u8], span: Span, end: usize) -> Placed
     if end < span.hi {
         return shortest_bound(times, own, end);
     }
-    let bound = span.bound;
     let prefix = span.prefix;
-    Placed { bound, prefix }
+    Placed {
+        bound: span.bound,
+        prefix,
+    }
 }
 
 // The fingerprints of the parts of the span.
 fn put_parts(
-    writer: Writer,
+    writer: &mut Writer,
     out: &mut [u8],
     pass: Pass,
     times: &[u64],
     own: &[u8],
     parts: usize,
     span: Span,
-) -> Write
+) -> Result<(), Refusal>
     requires { Passed (lent times.now own.now) × Inside (lent times.now own.now) span × (0 < parts) × (parts ≤ span.hi - span.lo) }
-    ensures { HandsOver (writes pass) (spec.fingerprint_ranges (split (sizes to_last parts (span.hi - span.lo)) (own_in (lent times.now own.now) span)) (upper_of span)) (before writer (buffer_of pass out.old)) (after result (buffer_of pass out.new)) }
+    ensures { HandsOver (writes pass) (spec.fingerprint_ranges (split (sizes to_last parts (span.hi - span.lo)) (own_in (lent times.now own.now) span)) (upper_of span)) (before writer.old (buffer_of pass out.old)) (after result writer.new (buffer_of pass out.new)) }
 {
     let count = span.hi - span.lo;
-    let mut answer = Write {
-        written: Written::Taken,
-        next: writer,
-    };
     let mut at = span.lo;
-    let mut i = 0;
-    while i < parts {
+    for i in 0..parts {
         let end = at + part_size(parts, count, i);
         let upper = upper_at(times, own, span, end);
-        let next = answer.next;
-        answer = put_fingerprint(next, out, pass, times, own, at, end, upper);
-        let written = answer.written;
-        match written {
-            Written::Refused { refusal: _ } => {
-                return answer;
-            }
-            Written::Taken => {
-                at = end;
-                i += 1;
-            }
-        }
+        put_fingerprint(writer, out, pass, times, own, at, end, upper)?;
+        at = end;
     }
-    answer
+    Ok(())
 }
 
 // The cutting of the span.
 pub fn put_cut(
-    writer: Writer,
+    writer: &mut Writer,
     out: &mut [u8],
     pass: Pass,
     times: &[u64],
     own: &[u8],
     cut: Cut,
     span: Span,
-) -> Write
+) -> Result<(), Refusal>
     requires { Passed (lent times.now own.now) × Inside (lent times.now own.now) span × (spec.outside_limits (cut_of cut) ≡ false) }
-    ensures { HandsOver (writes pass) (spec.cut (cut_of cut) (own_in (lent times.now own.now) span) (upper_of span)) (before writer (buffer_of pass out.old)) (after result (buffer_of pass out.new)) }
+    ensures { HandsOver (writes pass) (spec.cut (cut_of cut) (own_in (lent times.now own.now) span) (upper_of span)) (before writer.old (buffer_of pass out.old)) (after result writer.new (buffer_of pass out.new)) }
 {
     if span.hi - span.lo <= cut.limit {
-        return put_ids(writer, out, pass, times, own, span);
+        put_ids(writer, out, pass, times, own, span)
+    } else {
+        put_parts(writer, out, pass, times, own, cut.parts, span)
     }
-    put_parts(writer, out, pass, times, own, cut.parts, span)
 }

@@ -26,10 +26,9 @@ use cutting::ranges::{put_cut, put_ids};
 use cutting::{Cut, Span};
 use idlist::same_bytes;
 use label::Label;
-use message::{Payload, Range};
+use message::{Payload, Range, Refusal};
 use walk::Walk;
-use writer::varint::Written;
-use writer::write::{Pass, Write, Writer};
+use writer::write::{Pass, Writer};
 
 // Whether the fingerprint at a place of the message is that of the span's own items.
 pub fn equals_own(m: &[u8], at: usize, times: &[u64], own: &[u8], span: Span) -> bool
@@ -39,19 +38,23 @@ pub fn equals_own(m: &[u8], at: usize, times: &[u64], own: &[u8], span: Span) ->
     let first = span.lo * 32;
     let last = span.hi * 32;
     let print = Label::of_ids(&own[first..last]).fingerprint();
-    let end = at + 16;
-    same_bytes(&m[at..end], &print)
+    same_bytes(&m[at..at + 16], &print)
 }
 
 // A skip up to the span's bound.
-fn put_skip(writer: Writer, out: &mut [u8], pass: Pass, span: Span, m: &[u8]) -> Write
+fn put_skip(
+    writer: &mut Writer,
+    out: &mut [u8],
+    pass: Pass,
+    span: Span,
+    m: &[u8],
+) -> Result<(), Refusal>
     requires { W.Lawful span.bound }
-    ensures { HandsOver (writes pass) (range (upper_of span) skip ∷ []) (before writer (buffer_of pass out.old)) (after result (buffer_of pass out.new)) }
+    ensures { HandsOver (writes pass) (range (upper_of span) skip ∷ []) (before writer.old (buffer_of pass out.old)) (after result writer.new (buffer_of pass out.new)) }
 {
-    let bound = span.bound;
     let prefix = span.prefix;
     let range = Range {
-        bound,
+        bound: span.bound,
         prefix,
         payload: Payload::Skip,
     };
@@ -60,7 +63,7 @@ fn put_skip(writer: Writer, out: &mut [u8], pass: Pass, span: Span, m: &[u8]) ->
 
 // What one range becomes: where it lists ids, all own ids if `listing` says so, and otherwise a skip.
 pub fn put_treated(
-    writer: Writer,
+    writer: &mut Writer,
     out: &mut [u8],
     pass: Pass,
     listing: bool,
@@ -70,30 +73,22 @@ pub fn put_treated(
     m: &[u8],
     span: Span,
     payload: Payload,
-) -> Write
+) -> Result<(), Refusal>
     requires { Passed (lent times.now own.now) × (outside_limits (cut_of cut) ≡ false) × Inside (lent times.now own.now) span × W.Inside payload (length m.now) }
-    ensures { (x : Bound) → within x (upper_of span) (items (lent times.now own.now)) ≡ own_in (lent times.now own.now) span → HandsOver (writes pass) (treat (given listing) (cut_of cut) (items (lent times.now own.now)) x (upper_of span) (payload_of payload m.now)) (before writer (buffer_of pass out.old)) (after result (buffer_of pass out.new)) }
+    ensures { (x : Bound) → within x (upper_of span) (items (lent times.now own.now)) ≡ own_in (lent times.now own.now) span → HandsOver (writes pass) (treat (given listing) (cut_of cut) (items (lent times.now own.now)) x (upper_of span) (payload_of payload m.now)) (before writer.old (buffer_of pass out.old)) (after result writer.new (buffer_of pass out.new)) }
 {
     match payload {
-        Payload::Skip => put_skip(writer, out, pass, span, m),
-        Payload::Fingerprint { at } => {
-            if equals_own(m, at, times, own, span) {
-                return put_skip(writer, out, pass, span, m);
-            }
+        Payload::Fingerprint { at } if !equals_own(m, at, times, own, span) => {
             put_cut(writer, out, pass, times, own, cut, span)
         }
-        Payload::Ids { count: _, at: _ } => {
-            if listing {
-                return put_ids(writer, out, pass, times, own, span);
-            }
-            put_skip(writer, out, pass, span, m)
-        }
+        Payload::Ids { .. } if listing => put_ids(writer, out, pass, times, own, span),
+        _ => put_skip(writer, out, pass, span, m),
     }
 }
 
 // What the whole message becomes.
 pub fn put_reply(
-    writer: Writer,
+    writer: &mut Writer,
     out: &mut [u8],
     pass: Pass,
     listing: bool,
@@ -101,32 +96,19 @@ pub fn put_reply(
     own: &[u8],
     cut: Cut,
     m: &[u8],
-) -> Write
+) -> Result<(), Refusal>
     requires { Passed (lent times.now own.now) × (outside_limits (cut_of cut) ≡ false) × Walking (lent times.now own.now) m.now starts }
-    ensures { HandsOver (writes pass) (flatten (each_range (treat (given listing) (cut_of cut) (items (lent times.now own.now))) start (ranges_at m.now starts.cursor))) (before writer (buffer_of pass out.old)) (after result (buffer_of pass out.new)) }
+    ensures { HandsOver (writes pass) (flatten (each_range (treat (given listing) (cut_of cut) (items (lent times.now own.now))) start (ranges_at m.now starts.cursor))) (before writer.old (buffer_of pass out.old)) (after result writer.new (buffer_of pass out.new)) }
 {
-    let mut answer = Write {
-        written: Written::Taken,
-        next: writer,
-    };
     let mut walk = Walk::start();
     while walk.cursor.at < m.len() {
         let step = walk.step(m, times, own);
-        let span = step.span;
-        let payload = step.payload;
-        let next = answer.next;
-        answer = put_treated(next, out, pass, listing, times, own, cut, m, span, payload);
-        let written = answer.written;
-        match written {
-            Written::Refused { refusal: _ } => {
-                return answer;
-            }
-            Written::Taken => {
-                walk = step.next;
-            }
-        }
+        put_treated(
+            writer, out, pass, listing, times, own, cut, m, step.span, step.payload,
+        )?;
+        walk = step.next;
     }
-    answer
+    Ok(())
 }
 
 // Whether the span's range gives a skip to the opener.
@@ -135,9 +117,8 @@ fn gives_skip(m: &[u8], times: &[u64], own: &[u8], span: Span, payload: Payload)
     ensures { result ≡ equal_or_none (payload_of payload m.now) (own_in (lent times.now own.now) span) }
 {
     match payload {
-        Payload::Skip => true,
         Payload::Fingerprint { at } => equals_own(m, at, times, own, span),
-        Payload::Ids { count: _, at: _ } => true,
+        Payload::Skip | Payload::Ids { .. } => true,
     }
 }
 
@@ -149,9 +130,7 @@ pub fn skips_only(times: &[u64], own: &[u8], m: &[u8]) -> bool
     let mut walk = Walk::start();
     while walk.cursor.at < m.len() {
         let step = walk.step(m, times, own);
-        let span = step.span;
-        let payload = step.payload;
-        if !gives_skip(m, times, own, span, payload) {
+        if !gives_skip(m, times, own, step.span, step.payload) {
             return false;
         }
         walk = step.next;

@@ -1,19 +1,19 @@
 -- For contracts of functions that only our own crates call: what is sent, and where a message stops.
-use Rattle.std.specs.Prelude.{ℕ, ◌≡◌, Bool, false, List, leb, replicate}
+use Rattle.std.specs.Prelude.{Option, Some, None, Result, ℕ, ◌≡◌, Bool, false, cond, List, leb, length, replicate}
 use Rattle.message.specs.Message.{Range}
 use Rattle.message.specs.declared.Bound.{Bound}
 use Rattle.message.specs.declared.Payload.{Payload}
 use Rattle.reader.specs.Private.{ranges_at}
 use Rattle.theory.specs.Rounds.{Cut}
 use Rattle.table.specs.Table.{Item, Table, items}
+use Rattle.table.specs.Code.{answer_of}
+use Rattle.table.specs.declared.Refusal.{Refusal}
 use Rattle.cutting.specs.declared.Span.{Span}
 use Rattle.ends.specs.Calls.{result}
 use Rattle.ends.specs.Responder.{reply, send}
 use Rattle.ends.specs.Opener.{first_query, next_query}
 use Rattle.walk.specs.Walking.{starts, Walking}
 use Rattle.sending.specs.declared.Kind.{Kind}
-use Rattle.sending.specs.declared.Outcome.{Outcome}
-use Rattle.sending.specs.Code.{outcome_of}
 
 -- ---- what is sent
 
@@ -32,9 +32,13 @@ Walks Kind.FirstQuery T m = Unit {0}
 Walks Kind.Answer T m = Walking T m starts
 Walks Kind.NextQuery T m = Walking T m starts
 
--- a call that was lent the buffer `before` to send this message answered r and left `after`
-abbrev pub Sends : List ℕ → List ℕ → Outcome → List ℕ → Type 0
-Sends message before r after = result before (send message before) ≡ record { answer = outcome_of r; lent = after }
+-- a call that was lent the buffer `before` to send this message answered r, the length of the message, and left `after`
+abbrev pub Sends : List ℕ → List ℕ → Result ℕ Refusal → List ℕ → Type 0
+Sends message before r after = result before (send message before) ≡ record { answer = answer_of r; lent = after }
+
+-- the length of a message, if it has at most `size` bytes
+abbrev pub measured : List ℕ → ℕ → Option ℕ
+measured message size = cond (leb (length message) size) (Some (length message)) None
 
 -- ---- where a message stops
 

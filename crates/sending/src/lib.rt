@@ -2,8 +2,6 @@
 // own crates: message, table, cut and limit are checked before.
 #![tactic(auto)]
 
-use table::Refusal;
-
 pub mod put;
 pub mod send;
 pub mod stop;
@@ -14,11 +12,4 @@ pub enum Kind {
     FirstQuery,
     Answer,
     NextQuery,
-}
-
-// What a call answers: the length of the message that it wrote, or why it is refused.
-#[derive(Clone, Copy)]
-pub enum Outcome {
-    Written { length: usize },
-    Refused { refusal: Refusal },
 }

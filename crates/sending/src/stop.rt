@@ -1,5 +1,5 @@
 // Where a message stops that a byte limit does not hold: it is measured up to the first range without room.
-ghost use Rattle.std.specs.Prelude.{◌≤◌, ◌<◌, ◌≡◌, false, cond, length};
+ghost use Rattle.std.specs.Prelude.{◌≤◌, ◌<◌, ◌≡◌, false, length};
 ghost use Rattle.message.specs.Meaning.{write_message};
 ghost use Rattle.table.specs.Table.{items};
 ghost use Rattle.table.specs.Code.{lent};
@@ -21,7 +21,6 @@ use exchange::treat::put_treated;
 use message::Payload;
 use shorten::Stop;
 use walk::Walk;
-use writer::varint::Written;
 use writer::write::{Pass, Writer};
 
 // Where the first query stops, which `size` bytes do not hold.
@@ -29,13 +28,10 @@ fn stop_opening(times: &[u64], own: &[u8], cut: Cut, size: usize) -> Stop
     requires { Passed (lent times.now own.now) × (outside_limits (cut_of cut) ≡ false) × (1 ≤ size) × (size < length (write_message (first_query (cut_of cut) (items (lent times.now own.now))))) }
     ensures { Stopped size (lent times.now own.now) (first_query (cut_of cut) (items (lent times.now own.now))) result × Stands (lent times.now own.now) result }
 {
-    let start = Writer::start(size);
-    let next = start.next;
     let span = whole(times);
     let pass = Pass::Measure { size };
-    let mut none = [0u8; 1];
-    let measured = put_cut(next, &mut none, pass, times, own, cut, span);
-    let writer = measured.next;
+    let mut writer = Writer::START;
+    let _ = put_cut(&mut writer, &mut [], pass, times, own, cut, span);
     Stop {
         writer,
         kept: 0,
@@ -50,19 +46,9 @@ fn lists_own(payload: Payload, listing: bool, count: usize, cut: Cut) -> bool
 {
     match payload {
         Payload::Skip => false,
-        Payload::Fingerprint { at: _ } => count <= cut.limit,
-        Payload::Ids { count: _, at: _ } => listing,
+        Payload::Fingerprint { .. } => count <= cut.limit,
+        Payload::Ids { .. } => listing,
     }
-}
-
-// The place of the last bound that is written, behind a range up to the place `hi`.
-fn kept_place(writer: Writer, kept: usize, hi: usize) -> usize
-    ensures { result ≡ cond writer.pending kept hi }
-{
-    if writer.pending {
-        return kept;
-    }
-    hi
 }
 
 // Where what a message becomes stops, which `size` bytes do not hold.
@@ -70,44 +56,30 @@ fn stop_reply(times: &[u64], own: &[u8], cut: Cut, listing: bool, m: &[u8], size
     requires { Passed (lent times.now own.now) × (outside_limits (cut_of cut) ≡ false) × Walking (lent times.now own.now) m.now starts × (1 ≤ size) × (size < length (write_message (made listing (cut_of cut) (items (lent times.now own.now)) (ranges_at m.now starts.cursor)))) }
     ensures { Stopped size (lent times.now own.now) (made listing (cut_of cut) (items (lent times.now own.now)) (ranges_at m.now starts.cursor)) result × Stands (lent times.now own.now) result }
 {
-    let start = Writer::start(size);
-    let mut writer = start.next;
+    let pass = Pass::Measure { size };
+    let mut writer = Writer::START;
     let mut walk = Walk::start();
-    let mut kept = 0usize;
+    let mut kept = 0;
     while walk.cursor.at < m.len() {
         let step = walk.step(m, times, own);
         let span = step.span;
         let payload = step.payload;
-        let pass = Pass::Measure { size };
-        let mut none = [0u8; 1];
-        let answer = put_treated(
-            writer, &mut none, pass, listing, times, own, cut, m, span, payload,
+        let put = put_treated(
+            &mut writer, &mut [], pass, listing, times, own, cut, m, span, payload,
         );
-        let next = answer.next;
-        let written = answer.written;
-        match written {
-            Written::Refused { refusal: _ } => {
-                return Stop {
-                    writer: next,
-                    kept,
-                    span,
-                    listed: lists_own(payload, listing, span.hi - span.lo, cut),
-                };
-            }
-            Written::Taken => {
-                writer = next;
-                kept = kept_place(next, kept, span.hi);
-                walk = step.next;
-            }
+        if put.is_err() {
+            return Stop {
+                writer,
+                kept,
+                span,
+                listed: lists_own(payload, listing, span.hi - span.lo, cut),
+            };
         }
+        kept = if writer.pending { kept } else { span.hi };
+        walk = step.next;
     }
-    // Not reached: some range has no room.
-    Stop {
-        writer,
-        kept,
-        span: whole(times),
-        listed: false,
-    }
+    // Some range has no room.
+    unreachable!()
 }
 
 // Where a message stops, which `size` bytes do not hold.

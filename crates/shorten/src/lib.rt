@@ -24,17 +24,9 @@ ghost use Rattle.shorten.specs.Private.{Stands, Stopped, kept_ids, closing_range
 use cutting::Span;
 use cutting::between::{Placed, shortest_bound};
 use cutting::ranges::put_fingerprint;
-use message::{Bound, Payload, Range};
+use message::{Bound, Payload, Range, Refusal};
 use table::search::first_at_or_above;
-use writer::varint::Written;
-use writer::write::{Pass, Write, Writer};
-
-// The byte limit of a call, if it was given one.
-#[derive(Clone, Copy)]
-pub enum Limit {
-    Unlimited,
-    Bytes { most: usize },
-}
+use writer::write::{Pass, Writer};
 
 // Where handing ranges over stopped: the writer; the place in the table of the last bound that is written, where a skip waits; and the span of
 // the range that did not fit, if it lists the own ids there.
@@ -55,16 +47,11 @@ pub struct Closing {
     pub from: usize,
 }
 
-impl Limit {
-    // Check 14.
-    pub fn is_below_least(self) -> bool
-        ensures { result ≡ spec.below_least (limit_of self) }
-    {
-        match self {
-            Limit::Unlimited => false,
-            Limit::Bytes { most } => most < 4096,
-        }
-    }
+// Check 14, of a call that was given a byte limit.
+pub fn below_least(limit: Option<usize>) -> bool
+    ensures { result ≡ spec.below_least (limit_of limit) }
+{
+    matches!(limit, Some(most) if most < 4096)
 }
 
 // The first `count` ids of the span, up to the shortest bound before the next id.
@@ -72,12 +59,10 @@ fn first_ids(times: &[u64], own: &[u8], span: Span, count: usize) -> Range
     requires { Passed (lent times.now own.now) × Inside (lent times.now own.now) span × (0 < count) × (count < span.hi - span.lo) }
     ensures { (range_of result own.now ≡ first_ids (own_in (lent times.now own.now) span) count) × W.Lawful result.bound × W.Inside result.payload (length own.now) }
 {
-    let end = span.lo + count;
-    let upper = shortest_bound(times, own, end);
-    let bound = upper.bound;
+    let upper = shortest_bound(times, own, span.lo + count);
     let prefix = upper.prefix;
     Range {
-        bound,
+        bound: upper.bound,
         prefix,
         payload: Payload::Ids {
             count,
@@ -90,17 +75,8 @@ fn first_ids(times: &[u64], own: &[u8], span: Span, count: usize) -> Range
 fn has_room(writer: Writer, size: usize, range: Range, source: &[u8]) -> bool
     ensures { result ≡ is_taken (verdict size writer range source.now) }
 {
-    writer.measure(size, range, source).is_taken()
-}
-
-// The smaller of two numbers.
-fn least(a: usize, b: usize) -> usize
-    ensures { (result ≤ a) × (result ≤ b) × (result < a → result ≡ b) }
-{
-    if a < b {
-        return a;
-    }
-    b
+    let mut trial = writer;
+    trial.measure(size, range, source).is_ok()
 }
 
 // The most ids of the span, fewer than all, that fit into `size` bytes behind what was handed over; 0 where not one does. No more than
@@ -110,32 +86,26 @@ pub fn most_ids(writer: Writer, size: usize, times: &[u64], own: &[u8], span: Sp
     ensures { result ≡ largest (λ k. leb (writer.at + length (more_bytes writer (first_ids (own_in (lent times.now own.now) span) k))) size) (span.hi - span.lo - 1) }
 {
     let count = span.hi - span.lo;
-    if count < 2 {
-        return 0;
-    }
-    let mut k = least(count - 1, size / 32);
-    while 0 < k {
-        let range = first_ids(times, own, span, k);
-        if has_room(writer, size, range, own) {
+    for k in (1..count.min(size / 32 + 1)).rev() {
+        if has_room(writer, size, first_ids(times, own, span, k), own) {
             return k;
         }
-        k -= 1;
     }
-    k
+    0
 }
 
 // The first `count` ids of the span, handed over.
 pub fn put_first_ids(
-    writer: Writer,
+    writer: &mut Writer,
     out: &mut [u8],
     pass: Pass,
     times: &[u64],
     own: &[u8],
     span: Span,
     count: usize,
-) -> Write
+) -> Result<(), Refusal>
     requires { Passed (lent times.now own.now) × Inside (lent times.now own.now) span × (0 < count) × (count < span.hi - span.lo) }
-    ensures { HandsOver (writes pass) (first_ids (own_in (lent times.now own.now) span) count ∷ []) (before writer (buffer_of pass out.old)) (after result (buffer_of pass out.new)) }
+    ensures { HandsOver (writes pass) (first_ids (own_in (lent times.now own.now) span) count ∷ []) (before writer.old (buffer_of pass out.old)) (after result writer.new (buffer_of pass out.new)) }
 {
     let range = first_ids(times, own, span, count);
     writer.put(out, pass, range, own)
@@ -143,20 +113,19 @@ pub fn put_first_ids(
 
 // The last fingerprint range: of the items from the place `from` on, up to infinity.
 pub fn put_last(
-    writer: Writer,
+    writer: &mut Writer,
     out: &mut [u8],
     pass: Pass,
     times: &[u64],
     own: &[u8],
     from: usize,
-) -> Write
+) -> Result<(), Refusal>
     requires { Passed (lent times.now own.now) × (from ≤ length times.now) }
-    ensures { HandsOver (writes pass) (range B.infinity (fingerprint (fingerprint_of (run (lent times.now own.now) from (length times.now)))) ∷ []) (before writer (buffer_of pass out.old)) (after result (buffer_of pass out.new)) }
+    ensures { HandsOver (writes pass) (range B.infinity (fingerprint (fingerprint_of (run (lent times.now own.now) from (length times.now)))) ∷ []) (before writer.old (buffer_of pass out.old)) (after result writer.new (buffer_of pass out.new)) }
 {
-    let prefix = [0u8; 32];
     let upper = Placed {
         bound: Bound::Infinity,
-        prefix,
+        prefix: [0u8; 32],
     };
     put_fingerprint(writer, out, pass, times, own, from, times.len(), upper)
 }
@@ -166,26 +135,25 @@ fn kept_ids(stop: Stop, size: usize, times: &[u64], own: &[u8]) -> usize
     requires { Passed (lent times.now own.now) × Stands (lent times.now own.now) stop }
     ensures { result ≡ kept_ids (lent times.now own.now) size stop }
 {
-    let writer = stop.writer;
-    let span = stop.span;
     if stop.listed {
-        return most_ids(writer, size, times, own, span);
+        most_ids(stop.writer, size, times, own, stop.span)
+    } else {
+        0
     }
-    0
 }
 
 // The writer without the skip that waits.
 fn without_skip(writer: Writer) -> Writer
     ensures { result ≡ without_skip writer }
 {
-    let time = writer.time;
-    let prefix = [0u8; 32];
     Writer {
-        at: writer.at,
-        time,
         pending: false,
-        bound: Bound::At { time, len: 0 },
-        prefix,
+        bound: Bound::At {
+            time: writer.time,
+            len: 0,
+        },
+        prefix: [0u8; 32],
+        ..writer
     }
 }
 
@@ -194,14 +162,12 @@ fn last_fits(writer: Writer, size: usize) -> bool
     requires { W.Lawful writer.bound × (B.key (lower_of writer) < B.key B.infinity) }
     ensures { result ≡ leb (writer.at + length (more_bytes writer (range B.infinity (fingerprint (replicate 16 0))))) size }
 {
-    let prefix = [0u8; 32];
-    let source = [0u8; 16];
     let last = Range {
         bound: Bound::Infinity,
-        prefix,
+        prefix: [0u8; 32],
         payload: Payload::Fingerprint { at: 0 },
     };
-    has_room(writer, size, last, &source)
+    has_room(writer, size, last, &[0u8; 16])
 }
 
 // How a message that stopped is closed within size + 19 bytes.
@@ -220,41 +186,33 @@ pub fn close(stop: Stop, size: usize, times: &[u64], own: &[u8]) -> Closing
         };
     }
     let count = kept_ids(stop, size, times, own);
-    if 0 < count {
-        return Closing {
-            writer,
-            span,
-            count,
-            from: span.lo + count,
-        };
-    }
-    let bound = writer.bound;
-    let prefix = writer.prefix;
+    let from = if 0 < count {
+        span.lo + count
+    } else {
+        first_at_or_above(times, own, writer.bound, &writer.prefix)
+    };
     Closing {
         writer,
         span,
-        count: 0,
-        from: first_at_or_above(times, own, bound, &prefix),
+        count,
+        from,
     }
 }
 
 // The ranges that close a message, handed over.
-pub fn put_closing(closing: Closing, out: &mut [u8], pass: Pass, times: &[u64], own: &[u8]) -> Write
+pub fn put_closing(
+    writer: &mut Writer,
+    out: &mut [u8],
+    pass: Pass,
+    times: &[u64],
+    own: &[u8],
+    closing: Closing,
+) -> Result<(), Refusal>
     requires { Passed (lent times.now own.now) × Inside (lent times.now own.now) closing.span × (0 < closing.count → closing.count < closing.span.hi - closing.span.lo) × (closing.from ≤ length times.now) }
-    ensures { HandsOver (writes pass) (closing_ranges (lent times.now own.now) closing) (before closing.writer (buffer_of pass out.old)) (after result (buffer_of pass out.new)) }
+    ensures { HandsOver (writes pass) (closing_ranges (lent times.now own.now) closing) (before writer.old (buffer_of pass out.old)) (after result writer.new (buffer_of pass out.new)) }
 {
-    let writer = closing.writer;
-    let span = closing.span;
-    if closing.count == 0 {
-        return put_last(writer, out, pass, times, own, closing.from);
+    if 0 < closing.count {
+        put_first_ids(writer, out, pass, times, own, closing.span, closing.count)?;
     }
-    let first = put_first_ids(writer, out, pass, times, own, span, closing.count);
-    let written = first.written;
-    match written {
-        Written::Refused { refusal: _ } => first,
-        Written::Taken => {
-            let next = first.next;
-            put_last(next, out, pass, times, own, closing.from)
-        }
-    }
+    put_last(writer, out, pass, times, own, closing.from)
 }

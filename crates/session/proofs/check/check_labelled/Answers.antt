@@ -22,7 +22,7 @@ returns-in_err-check_cut c =
     let a = c.args in
     let T = lent a.times.now a.ids.now in
     let ok = labelled-passed T (table_label T) c.in_ok-label.ensures in
-    let p = err_from_is_err_and c.from_residual.result c.from_residual.ensures.1 in
+    let p = err_from_is_err_and c.from_residual-in_err-check_cut.result c.from_residual-in_err-check_cut.ensures.1 in
     rw (p.1, p.2)
     (end_refused (limit_of a.limit) T (cut_of a.cut) _ (answer (tt {0})) _ (λ e. not-both (sym e)) (c.in_err-check_cut.ensures ∙ sym (table_then T ok.0 _)))
 

@@ -26,7 +26,7 @@ returns-in_err-label c =
 
 pub returns-in_err-check_session : goal.returns-in_err-check_session
 returns-in_err-check_session c =
-    let p = err_from_is_err_and c.from_residual.result c.from_residual.ensures.1 in
+    let p = err_from_is_err_and c.from_residual-in_err-check_session.result c.from_residual-in_err-check_session.ensures.1 in
     λ out.
     let table : Table = lent c.args.times.now c.args.ids.now in
     let wrong : List ℕ → Bool = λ out. let l = lent_to c.args.session c.args.marks.now c.args.needed.now out in

@@ -47,7 +47,7 @@ returns-in_err-length c =
     let before : Lent = lent_first c.args.marks.now c.args.needed.now c.args.out.now in
     let passed : Checked (limit_of c.args.limit) (table) (cut_of c.args.cut) = (end-passed (limit_of c.args.limit) (table) (cut_of c.args.cut) _ c.in_ok-label.ensures).0 in
     let fit : wrong_buffers (table) (before) ≡ false = buffers_right (table) (before) (sym c.buffers_fit.ensures ∙ c.if-not-buffers_fit.false) in
-    let p = err_from_is_err_and c.from_residual.result c.from_residual.ensures.1 in
+    let p = err_from_is_err_and c.from_residual-in_err-length.result c.from_residual-in_err-length.ensures.1 in
     rw (p.1, p.2)
     (open_long (limit_of c.args.limit) (table) (cut_of c.args.cut) (before) (passed) (fit) _ _
     c.in_err-length.ensures)

@@ -38,8 +38,8 @@ send_query-requires c =
     let done : c.skips_only-done.result ≡ skips_only (query) = c.skips_only-done.ensures (cut_of c.args.cut) c.requires.1 in
     (c.requires.0, c.requires.1, c.requires.2, c.requires.3, done)
 
-pub join-requires : goal.join-requires
-join-requires c =
+pub join-session-requires : goal.join-session-requires
+join-session-requires c =
     let own : List Item = items (lent c.args.times.now c.args.ids.now) in
     let ranges : List Range = ranges_at c.args.reply.now starts.cursor in
     let query : List Range = next_query (cut_of c.args.cut) (own) (ranges) in
@@ -78,7 +78,7 @@ returns c =
     let room-told : c.too_many.result ≡ ltb (length c.args.needed.now / 32) (length (joined)) = c.too_many.ensures in
     let done : c.skips_only-done.result ≡ skips_only (query) = c.skips_only-done.ensures (cut_of c.args.cut) c.requires.1 in
     let a = c.args in
-    let j = c.join.ensures in
+    let j = c.join-session.ensures in
     take-passed (message) (skips_only (query)) (after) (joined) a.session.now a.marks.now a.needed.now a.out.now
     _ (room-told) c.if-too_many.false _ _ _ _ _ _ _
-    c.in_ok-length.ensures c.mark.ensures j.value j.needed_after c.count_ones.ensures (done)
+    c.in_ok-length.ensures c.mark.ensures j.value j.needed_after c.count_ones-session.ensures (done)

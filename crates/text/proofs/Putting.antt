@@ -138,9 +138,9 @@ pub put-end : (t out o₁ : List ℕ) (k x : ℕ) → k ≡ length t → length 
 put-end t out o₁ k x e h p = (sym (length-append t (x ∷ []) ∙ ap (λ (n : ℕ). n + 1) (sym e)), put_one t out o₁ k x e h p)
 
 -- a word, and a text put behind it
-pub word_put : (w t out o₁ last : List ℕ) (r : ℕ) → length w ≤ length out → o₁ ≡ put w out → r ≡ length t
-    → last ≡ put t (rest (length w) o₁) → (length w + r ≡ length (w ++ t)) × (joined (length w) o₁ last ≡ put (w ++ t) out)
-word_put w t out o₁ last r h p e q = (ap (λ (k : ℕ). length w + k) e ∙ sym (length-append w t), put-behind w t out o₁ last (length w) refl h p q)
+pub word_put : (w t out o₁ last : List ℕ) (k r : ℕ) → k ≡ length w → length w ≤ length out → o₁ ≡ put w out → r ≡ length t
+    → last ≡ put t (rest k o₁) → (k + r ≡ length (w ++ t)) × (joined k o₁ last ≡ put (w ++ t) out)
+word_put w t out o₁ last k r e h p f q = (omega (arith, length-append w t), put-behind w t out o₁ last k e h p q)
 
 -- `fingerprint`, `ids` and `refused`, each with a space
 abbrev pub fingerprint_word : List ℕ

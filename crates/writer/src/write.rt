@@ -153,9 +153,10 @@ impl Writer {
         ensures { out.new ≡ lay (pending_bytes self) out.old }
     {
         if self.pending {
+            let prefix = self.prefix;
             let skip = Range {
                 bound: self.bound,
-                prefix: self.prefix,
+                prefix,
                 payload: Payload::Skip,
             };
             write_range(out, self.time, skip, source);

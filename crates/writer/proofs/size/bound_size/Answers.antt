@@ -8,7 +8,7 @@ returns-in-Infinity c = size-infinity _ _ _ _ c.in-Infinity.is c.time_code.ensur
 
 pub returns-in-At : goal.returns-in-At
 returns-in-At c =
-    size_at _ _ _ _ _ _ _ c.in-At.is c.requires c.time_code.ensures c.width-code.ensures c.width-length.ensures
+    size_at _ _ _ _ _ _ _ c.in-At.is c.requires c.time_code.ensures c.width-code.ensures c.width.ensures
 
 pub overflow_add-result : goal.overflow_add-result
 overflow_add-result c = omega (arith, returns-in-Infinity c)

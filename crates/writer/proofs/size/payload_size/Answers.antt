@@ -14,13 +14,10 @@ unfolding payload_size
 returns-in-Fingerprint c = (rw c.in-Fingerprint.is refl, omega arith)
 
 pub returns-in-Ids : goal.returns-in-Ids
-returns-in-Ids c = size-ids _ _ _ _ _ c.in-Ids.is c.requires c.width-length.ensures
+returns-in-Ids c = size-ids _ _ _ _ _ c.in-Ids.is c.requires c.width.ensures
 
 pub overflow_add-result : goal.overflow_add-result
 overflow_add-result c = omega (arith, returns-in-Ids c)
-
-pub overflow_mul-result : goal.overflow_mul-result
-overflow_mul-result c = omega (arith, returns-in-Ids c)
 
 pub overflow_add-result-in-Ids : goal.overflow_add-result-in-Ids
 overflow_add-result-in-Ids c = omega (arith, returns-in-Ids c)

@@ -2,15 +2,13 @@
 use mathlib.Core.Path.{sym, ◌∙◌}
 use Rattle.writer.proofs.Steps.{moved-skip, moved_more}
 use Rattle.writer.proofs.write.Writer.behind.Goals as goal
-
-pub returns-then-is_skip : goal.returns-then-is_skip
-returns-then-is_skip c =
-    λ source e.
-    let a = c.args in
-    moved-skip a.self a.range source (sym c.is_skip.ensures ∙ c.if-is_skip.true)
+use Rattle.writer.proofs.write.Writer.behind.Goals.{then-skip, else-skip}
 
 pub returns : goal.returns
 returns c =
     λ source e.
     let a = c.args in
-    moved_more a.self a.range source a.n c.time.result (sym c.is_skip.ensures ∙ c.if-is_skip.false) e c.time.ensures
+    elim c.if-skip.branch [
+      | then-skip w ↦ rw (w.if-skip.true, w.result-is) (moved-skip a.self a.range source a.n (sym c.is_skip-skip.ensures ∙ w.if-skip.true) e)
+      | else-skip w ↦ rw (w.if-skip.false, w.result-is) (moved_more a.self a.range source a.n w.time.result (sym c.is_skip-skip.ensures ∙ w.if-skip.false) e w.time.ensures)
+    ]

@@ -4,20 +4,15 @@ use mathlib.Core.Bool.{true}
 use Rattle.writer.specs.Writing.{lawful}
 use Rattle.writer.proofs.Steps.{order_is}
 use Rattle.writer.proofs.write.Writer.bounds_fit.Goals as goal
+use Rattle.writer.proofs.write.Writer.bounds_fit.Goals.{then-is_lawful, else-is_lawful}
 
-pub returns-then-not-is_lawful : goal.returns-then-not-is_lawful
-returns-then-not-is_lawful c = rw (sym c.is_lawful.ensures ∙ c.if-not-is_lawful.true)
-
-pub returns-then-not-is_lawful-2 : goal.returns-then-not-is_lawful-2
-returns-then-not-is_lawful-2 c =
-    let lower-lawful : lawful c.args.self.bound ≡ true = sym c.is_lawful.ensures ∙ c.if-not-is_lawful.false in
-    rw (lower-lawful, sym c.is_lawful-2.ensures ∙ c.if-not-is_lawful-2.true)
-
-pub returns : goal.returns
-returns c =
-    let lower-lawful : lawful c.args.self.bound ≡ true = sym c.is_lawful.ensures ∙ c.if-not-is_lawful.false in
-    let bound-lawful : lawful c.args.range.bound ≡ true = sym c.is_lawful-2.ensures ∙ c.if-not-is_lawful-2.false in
+pub returns-then-is_lawful-2 : goal.returns-then-is_lawful-2
+returns-then-is_lawful-2 c =
     let a = c.args in
-    let t = c.time.ensures in
-    rw (lower-lawful, bound-lawful)
-    (order_is a.self a.range _ _ _ _ _ t c.prefix.ensures c.time-2.ensures c.prefix-2.ensures c.below.ensures)
+    elim c.if-is_lawful.branch [
+      | then-is_lawful w ↦
+          let range-lawful : lawful a.range.bound ≡ true = sym w.is_lawful-then-is_lawful.ensures ∙ sym w.value-is ∙ c.if-is_lawful-2.true in
+          rw (sym w.if-is_lawful.ensures, range-lawful)
+          (order_is a.self a.range _ _ _ _ _ c.time.ensures c.prefix.ensures c.time-then-is_lawful-2.ensures c.prefix-then-is_lawful-2.ensures c.below.ensures)
+      | else-is_lawful w ↦ cc
+    ]

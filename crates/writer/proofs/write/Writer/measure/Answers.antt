@@ -1,31 +1,19 @@
 -- `writer::write::Writer::measure` meets its contract.
-use mathlib.Core.Path.{◌≡◌, ◌∙◌}
 use native.Mathlib.Omega.{arith}
-use Rattle.writer.specs.Writing.{taken, verdict}
 use Rattle.writer.proofs.Steps.{ready, next-taken, next-refused}
+use mathlib.Core.Path.{◌∙◌}
 use Rattle.writer.proofs.write.Writer.measure.Goals as goal
 
-pub more_size-n-requires : goal.more_size-n-requires
-more_size-n-requires c =
-    let is_taken_lem : let a = c.args in
-    taken ≡ verdict a.size a.self a.range a.source.now = rw c.in-Taken.is at c.judge.ensures in
-    let h = ready _ _ _ _ (is_taken_lem) in
+pub returns-in_err-judge-clause-writer_after : goal.returns-in_err-judge-clause-writer_after
+returns-in_err-judge-clause-writer_after c = next-refused _ _ _ _ _ c.in_err-judge.ensures
+
+pub more_size-requires : goal.more_size-requires
+more_size-requires c =
+    let h = ready _ _ _ _ c.in_ok-judge.ensures in
     (h.0, h.1, h.2)
 
-pub returns-in-Refused : goal.returns-in-Refused
-returns-in-Refused c =
-    let e = (rw c.in-Refused.is at c.judge.ensures) in
-    record { written_value = e; next_value = next-refused _ _ _ _ _ e }
-
-pub returns-in-Taken : goal.returns-in-Taken
-returns-in-Taken c =
-    let is_taken_lem : let a = c.args in
-    taken ≡ verdict a.size a.self a.range a.source.now = rw c.in-Taken.is at c.judge.ensures in
-    let e = is_taken_lem in
-    record { written_value = e; next_value = c.behind.ensures c.args.source.now c.more_size-n.ensures ∙ next-taken _ _ _ _ e }
-
 pub behind-requires : goal.behind-requires
-behind-requires c =
-    let is_taken_lem : let a = c.args in
-    taken ≡ verdict a.size a.self a.range a.source.now = rw c.in-Taken.is at c.judge.ensures in
-    omega (arith, (ready _ _ _ _ (is_taken_lem)).3)
+behind-requires c = omega (arith, (ready _ _ _ _ c.in_ok-judge.ensures).3)
+
+pub returns-clause-writer_after : goal.returns-clause-writer_after
+returns-clause-writer_after c = c.behind.ensures c.args.source.now c.more_size.ensures ∙ next-taken _ _ _ _ c.in_ok-judge.ensures

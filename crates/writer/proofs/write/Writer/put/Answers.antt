@@ -9,10 +9,10 @@ returns-in-Measure c =
     let told = c.in-Measure.is in
     let size = length-replicate {A = ℕ} c.in-Measure.size 0 in
     let m = c.measure.ensures in
-    record { written_value = rw (told, size) m.written_value; next_value = rw (told, size) m.next_value; out_after = rw told refl }
+    record { verdict_value = rw (told, size) m.verdict_value; writer_after = rw (told, size) m.writer_after; out_after = rw told refl }
 
 pub returns-in-Write : goal.returns-in-Write
 returns-in-Write c =
     let told = c.in-Write.is in
     let w = c.write.ensures in
-    record { written_value = rw told w.written_value; next_value = rw told w.next_value; out_after = rw told w.out_after }
+    record { verdict_value = rw told w.verdict_value; writer_after = rw told w.writer_after; out_after = rw told w.out_after }

@@ -109,8 +109,8 @@ fn inquire_with(
     }
 }
 
-// As `inquire`, for at most 1,024 needed ids.
-fn inquire_few(
+// As `inquire`, with room for E hints and for the marks of 8 M needed ids at a time.
+fn inquire_sized<const E: usize, const M: usize>(
     times: &[u64],
     ids: &[u8],
     count: usize,
@@ -120,36 +120,18 @@ fn inquire_few(
     fresh: &[u64],
     freshids: &[u8],
 ) -> Inquiry
+    requires { (0 < E) × (E ≤ 1048576) × (0 < M) × (M ≤ 1048576) }
     ensures { (marked : ℕ) (label : Label) → inquired count (lent_to times.now ids.now needed.now marked label size done) (lent fresh.now freshids.now) ≡ inquiry_of result }
 {
-    let mut ends = [0u32; 128];
-    let mut marks = [0u8; 128];
+    let mut ends = [0u32; E];
+    let mut marks = [0u8; M];
     inquire_with(
         times, ids, count, needed, size, done, fresh, freshids, &mut ends, &mut marks,
     )
 }
 
-// As `inquire`, for any number of needed ids. The marks of 1,048,576 have room.
-fn inquire_many(
-    times: &[u64],
-    ids: &[u8],
-    count: usize,
-    needed: &[u8],
-    size: usize,
-    done: bool,
-    fresh: &[u64],
-    freshids: &[u8],
-) -> Inquiry
-    ensures { (marked : ℕ) (label : Label) → inquired count (lent_to times.now ids.now needed.now marked label size done) (lent fresh.now freshids.now) ≡ inquiry_of result }
-{
-    let mut ends = [0u32; 16384];
-    let mut marks = [0u8; 131072];
-    inquire_with(
-        times, ids, count, needed, size, done, fresh, freshids, &mut ends, &mut marks,
-    )
-}
-
-// What a commit of the batch (`fresh`, `freshids`) into the table of `count` items would do, `size` ids being needed. It changes nothing.
+// What a commit of the batch (`fresh`, `freshids`) into the table of `count` items would do, `size` ids being needed. It changes nothing. A short list needs no large
+// arrays; in the large ones the marks of 1,048,576 ids have room.
 pub fn inquire(
     times: &[u64],
     ids: &[u8],
@@ -163,9 +145,10 @@ pub fn inquire(
     ensures { (marked : ℕ) (label : Label) → inquired count (lent_to times.now ids.now needed.now marked label size done) (lent fresh.now freshids.now) ≡ inquiry_of result }
 {
     if size <= 1024 {
-        return inquire_few(times, ids, count, needed, size, done, fresh, freshids);
+        inquire_sized::<128, 128>(times, ids, count, needed, size, done, fresh, freshids)
+    } else {
+        inquire_sized::<16384, 131072>(times, ids, count, needed, size, done, fresh, freshids)
     }
-    inquire_many(times, ids, count, needed, size, done, fresh, freshids)
 }
 
 // As `commit`, with room for hints and marks.
@@ -202,8 +185,8 @@ fn commit_with(
     }
 }
 
-// As `commit`, for at most 1,024 needed ids.
-fn commit_few(
+// As `commit`, with room for E hints and for the marks of 8 M needed ids at a time.
+fn commit_sized<const E: usize, const M: usize>(
     times: &mut [u64],
     ids: &mut [u8],
     count: usize,
@@ -213,30 +196,11 @@ fn commit_few(
     fresh: &[u64],
     freshids: &[u8],
 ) -> Outcome
+    requires { (0 < E) × (E ≤ 1048576) × (0 < M) × (M ≤ 1048576) }
     ensures { (marked : ℕ) (label : Label) → committed count (lent_to times.old ids.old needed.old marked label size done) (lent fresh.now freshids.now) ≡ record { answer = outcome_of result; lent = lent_to times.new ids.new needed.new marked label (needed_by size result) done } }
 {
-    let mut ends = [0u32; 128];
-    let mut marks = [0u8; 128];
-    commit_with(
-        times, ids, count, needed, size, done, fresh, freshids, &mut ends, &mut marks,
-    )
-}
-
-// As `commit`, for any number of needed ids.
-fn commit_many(
-    times: &mut [u64],
-    ids: &mut [u8],
-    count: usize,
-    needed: &mut [u8],
-    size: usize,
-    done: bool,
-    fresh: &[u64],
-    freshids: &[u8],
-) -> Outcome
-    ensures { (marked : ℕ) (label : Label) → committed count (lent_to times.old ids.old needed.old marked label size done) (lent fresh.now freshids.now) ≡ record { answer = outcome_of result; lent = lent_to times.new ids.new needed.new marked label (needed_by size result) done } }
-{
-    let mut ends = [0u32; 16384];
-    let mut marks = [0u8; 131072];
+    let mut ends = [0u32; E];
+    let mut marks = [0u8; M];
     commit_with(
         times, ids, count, needed, size, done, fresh, freshids, &mut ends, &mut marks,
     )
@@ -257,7 +221,8 @@ pub fn commit(
     ensures { (marked : ℕ) (label : Label) → committed count (lent_to times.old ids.old needed.old marked label size done) (lent fresh.now freshids.now) ≡ record { answer = outcome_of result; lent = lent_to times.new ids.new needed.new marked label (needed_by size result) done } }
 {
     if size <= 1024 {
-        return commit_few(times, ids, count, needed, size, done, fresh, freshids);
+        commit_sized::<128, 128>(times, ids, count, needed, size, done, fresh, freshids)
+    } else {
+        commit_sized::<16384, 131072>(times, ids, count, needed, size, done, fresh, freshids)
     }
-    commit_many(times, ids, count, needed, size, done, fresh, freshids)
 }

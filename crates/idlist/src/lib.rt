@@ -15,7 +15,9 @@ pub fn same_bytes(p: &[u8], q: &[u8]) -> bool
     p == q
 }
 
-// Whether the ids that begin two slices are the same.
+// Whether the ids that begin two slices are the same. Out of line: inlined behind a word of the same id it keeps the compiler from loading that word at once, and
+// `find` took twice as long.
+#[inline(never)]
 pub fn same_id(a: &[u8], b: &[u8]) -> bool
     requires { (32 ≤ length a.now) × (32 ≤ length b.now) }
     ensures { result ≡ eqb (big_endian 32 a.now) (big_endian 32 b.now) }
@@ -36,7 +38,12 @@ fn find_between(list: &[u8], from: usize, to: usize, id: &[u8], first: u64) -> O
     requires { (from ≤ to) × (to * 32 ≤ length list.now) × (32 ≤ length id.now) × (first ≡ big_endian 8 id.now) }
     ensures { MatchOption result ((i : ℕ) → from ≤ i → i < to → same (take 32 id.now) (take 32 (drop (i * 32) list.now)) ≡ false) (λ i. (from ≤ i) × (i < to) × (same (take 32 id.now) (take 32 (drop (i * 32) list.now)) ≡ true) × ((k : ℕ) → from ≤ k → k < i → same (take 32 id.now) (take 32 (drop (k * 32) list.now)) ≡ false)) }
 {
-    (from..to).find(|i| stands_at(list, *i * 32, id, first))
+    for i in from..to {
+        if stands_at(list, i * 32, id, first) {
+            return Some(i);
+        }
+    }
+    None
 }
 
 // Where the id that begins a slice stands among the `count` ids that begin a list: sought from number `from` on, then from the start.

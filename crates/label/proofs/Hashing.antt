@@ -1,13 +1,13 @@
 -- The bytes of a label, and those that its fingerprint is made of: the four words of the sum, then the count, each laid behind those before it.
-use Rattle.std.proofs.Common.{◌≡◌, ℕ, zero, suc, ◌+◌, ◌-◌, ◌*◌, ◌/◌, ◌%◌, ◌^◌, ◌<◌, ◌≤◌, leb, List, ◌∷◌, ◌++◌, length, take, drop, sym, refl, ap, ◌∙◌, subst, ap₂, append_assoc, div-lt_iff_lt-mul, suc-add, one-mul, pow-suc, zero-add, arith, lit<, length-append, take_at, leb-false, leb-true}
+use Rattle.std.proofs.Common.{◌≡◌, ℕ, zero, suc, ◌+◌, ◌-◌, ◌*◌, ◌/◌, ◌%◌, ◌^◌, ◌<◌, ◌≤◌, leb, List, ◌∷◌, ◌++◌, length, take, drop, sym, refl, ap, ◌∙◌, subst, ap₂, append_assoc, div-lt_iff_lt-mul, suc-add, one-mul, pow-suc, zero-add, arith, lit<, length-append, take_at, leb-false, leb-true, w64}
 use lib.Arith.{lt-one}
-use lib.Seq.{sets, sets-eq}
 use borrow.Rule.Slice.PartMut.{mid_of, put_mid}
+use Rattle.std.specs.Int.{to_le_bytes}
 use Rattle.message.specs.Varint.{spell_varint}
 use Rattle.message.proofs.Exact.{by_test}
 use Rattle.message.proofs.Varints.{as_few_as_possible, spell_short}
 use Rattle.writer.specs.Writing.{lay}
-use Rattle.writer.proofs.Laying.{rest, joined, lay-fits, lay-length, lay-behind}
+use Rattle.writer.proofs.Laying.{rest, lay-fits, lay-length, lay-behind, lay-copied}
 use Rattle.sha256.specs.Fips180.{digest}
 use Rattle.label.specs.Label.{Label, low_bytes, hashed, fingerprint, spell_label}
 use Rattle.label.proofs.Words.{pow_step, four}
@@ -18,6 +18,18 @@ pub low-length : (n v : ℕ) → length (low_bytes n v) ≡ n
 unfolding low_bytes
 low-length zero v = refl
 low-length (suc n) v = ap suc (low-length n (v / 256))
+
+-- as `to_le_bytes` has them
+pub le-bytes : (v : ℕ) → to_le_bytes w64 v ≡ low_bytes 8 v
+unfolding low_bytes
+le-bytes v =
+    let two : v / 256 / 256 ≡ v / 0x1_0000 = omega arith in
+    let three : v / 0x1_0000 / 256 ≡ v / 0x100_0000 = omega arith in
+    let four : v / 0x100_0000 / 256 ≡ v / 0x1_0000_0000 = omega arith in
+    let five : v / 0x1_0000_0000 / 256 ≡ v / 0x100_0000_0000 = omega arith in
+    let six : v / 0x100_0000_0000 / 256 ≡ v / 0x1_0000_0000_0000 = omega arith in
+    let seven : v / 0x1_0000_0000_0000 / 256 ≡ v / 0x100_0000_0000_0000 = omega arith in
+    rw (two, three, four, five, six, seven) refl
 
 -- m bytes, then n more
 low-split : (m n a h : ℕ) → a < 256 ^ m → low_bytes (m + n) (a + 256 ^ m * h) ≡ low_bytes m a ++ low_bytes n h
@@ -38,26 +50,6 @@ low_four a b c d ha hb hc =
 
 -- ---- bytes laid behind one another
 
--- bytes stored one by one
-pub stored : (bytes out : List ℕ) → length bytes ≤ length out → sets out 0 bytes ≡ lay bytes out
-stored bytes out h =
-    let fits : 0 + length bytes ≤ length out = omega arith in
-    let n : 0 + length bytes ≡ length bytes = omega arith in
-    sets-eq bytes out 0 fits ∙ ap (λ (k : ℕ). bytes ++ drop k out) n ∙ sym (lay-fits bytes out h)
-
--- o₁ is o with the n bytes a at its start
-abbrev Begins : ℕ → List ℕ → List ℕ → List ℕ → Type 0
-Begins n a o o₁ = (length a ≡ n) × (o₁ ≡ lay a o)
-
--- m bytes more are laid at the start of the last k bytes
-behind : (m n k : ℕ) (a b o o₁ last : List ℕ) → length b ≡ m → m ≤ k → n + k ≡ length o → Begins n a o o₁ → last ≡ lay b (mid_of n k o₁) → Begins (n + m) (a ++ b) o (put_mid n k o₁ last)
-behind m n k a b o o₁ last e l h p q =
-    let left : k ≡ length o₁ - n = omega (arith, lay-length a o o₁ (omega arith) p.1) in
-    let part : last ≡ lay b (rest n o₁) = q ∙ ap (λ (j : ℕ). lay b (take j (drop n o₁))) left in
-    let both : length (a ++ b) ≡ n + m = length-append a b ∙ ap₂ (λ (x y : ℕ). x + y) p.0 e in
-    let laid : joined n o₁ last ≡ lay (a ++ b) o = lay-behind a b o o₁ last n (sym p.0) (omega arith) p.1 part in
-    (both, ap (λ (j : ℕ). put_mid n j o₁ last) left ∙ laid)
-
 -- ten digits hold 64 bits
 pub varint_fits : (v : ℕ) → v < 2 ^ 64 → length (spell_varint v) ≤ 10
 varint_fits v h =
@@ -70,12 +62,10 @@ varint_fits v h =
 regroup : (a b c d : List ℕ) → ((a ++ b) ++ c) ++ d ≡ a ++ (b ++ (c ++ d))
 regroup a b c d = simp append_assoc
 
--- four words laid behind one another
-pub words-laid : (a b c d : ℕ) (o o₁ l₂ l₃ l₄ : List ℕ) → a < 2 ^ 64 → b < 2 ^ 64 → c < 2 ^ 64 → 32 ≤ length o
-    → o₁ ≡ lay (low_bytes 8 a) o → l₂ ≡ lay (low_bytes 8 b) (rest 8 o₁) → l₃ ≡ lay (low_bytes 8 c) (rest 16 (joined 8 o₁ l₂))
-    → l₄ ≡ lay (low_bytes 8 d) (rest 24 (joined 16 (joined 8 o₁ l₂) l₃))
-    → joined 24 (joined 16 (joined 8 o₁ l₂) l₃) l₄ ≡ lay (low_bytes 32 (four a b c d)) o
-words-laid a b c d o o₁ l₂ l₃ l₄ ha hb hc h p₁ p₂ p₃ p₄ =
+-- four words copied behind one another
+pub words-laid : (a b c d : ℕ) (o : List ℕ) → a < 2 ^ 64 → b < 2 ^ 64 → c < 2 ^ 64 → 32 ≤ length o
+    → put_mid 24 8 (put_mid 16 8 (put_mid 8 8 (low_bytes 8 a ++ drop 8 o) (low_bytes 8 b)) (low_bytes 8 c)) (low_bytes 8 d) ≡ lay (low_bytes 32 (four a b c d)) o
+words-laid a b c d o ha hb hc h =
     let word = low_bytes 8 in
     let na = low-length 8 a in
     let nb = low-length 8 b in
@@ -83,9 +73,10 @@ words-laid a b c d o o₁ l₂ l₃ l₄ ha hb hc h p₁ p₂ p₃ p₄ =
     let nd = low-length 8 d in
     let two : length (word a ++ word b) ≡ 16 = omega (arith, length-append (word a) (word b)) in
     let three : length ((word a ++ word b) ++ word c) ≡ 24 = omega (arith, length-append (word a ++ word b) (word c)) in
-    let s₂ = lay-behind (word a) (word b) o o₁ l₂ 8 (omega arith) (omega arith) p₁ p₂ in
-    let s₃ = lay-behind (word a ++ word b) (word c) o _ l₃ 16 (omega arith) (omega arith) s₂ p₃ in
-    let s₄ = lay-behind ((word a ++ word b) ++ word c) (word d) o _ l₄ 24 (omega arith) (omega arith) s₃ p₄ in
+    let s₁ : word a ++ drop 8 o ≡ lay (word a) o = ap (λ (k : ℕ). word a ++ drop k o) (sym na) ∙ sym (lay-fits (word a) o (omega arith)) in
+    let s₂ = lay-copied (word a) (word b) o _ 8 8 (omega arith) (omega arith) (omega arith) s₁ in
+    let s₃ = lay-copied (word a ++ word b) (word c) o _ 16 8 (omega arith) (omega arith) (omega arith) s₂ in
+    let s₄ = lay-copied ((word a ++ word b) ++ word c) (word d) o _ 24 8 (omega arith) (omega arith) (omega arith) s₃ in
     s₄ ∙ ap (λ (x : List ℕ). lay x o) (regroup (word a) (word b) (word c) (word d) ∙ sym (low_four a b c d ha hb hc))
 
 -- ---- those of a label
@@ -94,26 +85,40 @@ pub spell_length : (l : Label) → length (spell_label l) ≡ 40
 unfolding spell_label
 spell_length l = rw (length-append (low_bytes 32 l.sum) (low_bytes 8 l.count), low-length 32 l.sum, low-length 8 l.count) refl
 
--- sum and count laid behind one another
-pub spell_laid : (l : Label) (o o₁ l₂ : List ℕ) → 40 ≤ length o → o₁ ≡ lay (low_bytes 32 l.sum) o → l₂ ≡ lay (low_bytes 8 l.count) (rest 32 o₁) → joined 32 o₁ l₂ ≡ spell_label l ++ drop 40 o
+-- the count copied behind the sum
+pub spell_laid : (l : Label) (o o₁ : List ℕ) → 40 ≤ length o → o₁ ≡ lay (low_bytes 32 l.sum) o → put_mid 32 8 o₁ (low_bytes 8 l.count) ≡ spell_label l ++ drop 40 o
 unfolding spell_label
-spell_laid l o o₁ l₂ h p₁ p₂ =
+spell_laid l o o₁ h p =
     let a = low_bytes 32 l.sum in
     let b = low_bytes 8 l.count in
     let na = low-length 32 l.sum in
     let nb = low-length 8 l.count in
     let n : length (a ++ b) ≡ 40 = omega (arith, length-append a b) in
-    lay-behind a b o o₁ l₂ 32 (omega arith) (omega arith) p₁ p₂ ∙ lay-fits (a ++ b) o (omega arith) ∙ ap (λ (k : ℕ). (a ++ b) ++ drop k o) n
+    lay-copied a b o o₁ 32 8 (omega arith) (omega arith) (omega arith) p ∙ lay-fits (a ++ b) o (omega arith) ∙ ap (λ (k : ℕ). (a ++ b) ++ drop k o) n
 
 -- ---- what is hashed
 
--- the first `end` bytes of an array of 42 to which the sum and the bytes v were written
-pub hashed_is : (s end : ℕ) (v o o₁ l₂ : List ℕ) → length o ≡ 42 → length v ≤ 10 → end ≡ 32 + length v
-    → o₁ ≡ lay (low_bytes 32 s) o → l₂ ≡ lay v (mid_of 32 10 o₁) → take end (put_mid 32 10 o₁ l₂) ≡ low_bytes 32 s ++ v
-hashed_is s end v o o₁ l₂ h n e p₁ p₂ =
-    let both = behind (length v) 32 10 (low_bytes 32 s) v o o₁ l₂ refl n (omega arith) (low-length 32 s, p₁) p₂ in
-    let all : List ℕ = low_bytes 32 s ++ v in
-    ap (take end) (both.1 ∙ lay-fits all o (omega (arith, both.0))) ∙ take_at all (drop (length all) o) end (both.0 ∙ sym e)
+-- an array of 42 bytes to which the sum and then the bytes v were written
+module _ (s : ℕ) (v o o₁ l₂ : List ℕ) (h : length o ≡ 42) (n : length v ≤ 10) (p₁ : o₁ ≡ lay (low_bytes 32 s) o) (p₂ : l₂ ≡ lay v (mid_of 32 10 o₁)) where
+  hashed-laid : put_mid 32 10 o₁ l₂ ≡ lay (low_bytes 32 s ++ v) o
+  hashed-laid =
+      let a = low_bytes 32 s in
+      let na = low-length 32 s in
+      let left : 10 ≡ length o₁ - 32 = omega (arith, lay-length a o o₁ (omega arith) p₁) in
+      let part : l₂ ≡ lay v (rest 32 o₁) = p₂ ∙ ap (λ (k : ℕ). lay v (take k (drop 32 o₁))) left in
+      ap (λ (k : ℕ). put_mid 32 k o₁ l₂) left ∙ lay-behind a v o o₁ l₂ 32 (sym na) (omega arith) p₁ part
+
+  pub hashed_length : length (put_mid 32 10 o₁ l₂) ≡ 42
+  hashed_length =
+      let na = low-length 32 s in
+      lay-length (low_bytes 32 s ++ v) o _ (omega (arith, length-append (low_bytes 32 s) v)) hashed-laid ∙ h
+
+  pub hashed_is : (end : ℕ) → end ≡ 32 + length v → take end (put_mid 32 10 o₁ l₂) ≡ low_bytes 32 s ++ v
+  hashed_is end e =
+      let all : List ℕ = low_bytes 32 s ++ v in
+      let na = low-length 32 s in
+      let long : length all ≡ end = omega (arith, length-append (low_bytes 32 s) v) in
+      ap (take end) (hashed-laid ∙ lay-fits all o (omega arith)) ∙ take_at all (drop (length all) o) end long
 
 pub fingerprint_is : (l : Label) (bytes d r : List ℕ) → bytes ≡ hashed l → d ≡ digest bytes → r ≡ take 16 d → r ≡ fingerprint l
 unfolding fingerprint

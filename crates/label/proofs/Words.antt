@@ -1,11 +1,14 @@
 -- Numbers in bytes and in words of 64 bits, the least significant first.
-use Rattle.std.proofs.Common.{◌≡◌, ℕ, zero, suc, ◌+◌, ◌*◌, ◌%◌, ◌^◌, ◌<◌, ◌≤◌, false, eqb, List, [], ◌∷◌, ◌++◌, length, get_or, take, drop, sym, refl, ap, ◌∙◌, ap₂, add-zero, mod-eq_of_lt, mul_assoc, mul_comm, one-mul, pow-suc, mul_left_comm, arith, length-drop, length-take-le, drop-cons, drop-drop, take-add, eq-eqb, ne_eqb, eqb-true}
+use Rattle.std.proofs.Common.{◌≡◌, ℕ, zero, suc, ◌+◌, ◌*◌, ◌%◌, ◌^◌, ◌<◌, ◌≤◌, Bool, true, false, ◌&&◌, eqb, List, [], ◌∷◌, ◌++◌, length, get_or, take, drop, sym, refl, ap, ◌∙◌, ap₂, add-zero, mod-eq_of_lt, mul_assoc, mul_comm, one-mul, pow-suc, mul_left_comm, arith, length-drop, length-take-le, drop-cons, drop-drop, take-add, eq-eqb, ne_eqb, eqb-true, take_all, w64}
+use lib.Pointwise.{pointwise}
+use Rattle.std.specs.Int.{from_le_bytes}
 use native.Mathlib.Nat as N
 use native.Mathlib.Numerals.{towards_suc}
 use lib.Arith.{digits_mod}
 use borrow.Author.Tests.{eqb-false}
 use Rattle.message.proofs.Exact.{by_test}
 use Rattle.label.specs.Label.{little_endian}
+use Rattle.label.specs.Code.{sum_in}
 
 -- ---- numbers in bytes
 
@@ -18,14 +21,12 @@ pub firsts_take : (n i : ℕ) (l : List ℕ) → i + n ≤ length l → firsts n
 firsts_take zero i l h = refl
 firsts_take (suc n) i l h = rw (drop-cons l i 0 (omega arith)) (ap (λ (x : List ℕ). get_or l i 0 ∷ x) (firsts_take n (suc i) l (omega arith)))
 
--- eight bytes, as the code puts them together
-pub word_is : (l : List ℕ) (i a b c d e f g h : ℕ) → i + 8 ≤ length l
-    → a ≡ get_or l i 0 → b ≡ get_or l (i + 1) 0 → c ≡ get_or l (i + 2) 0 → d ≡ get_or l (i + 3) 0
-    → e ≡ get_or l (i + 4) 0 → f ≡ get_or l (i + 5) 0 → g ≡ get_or l (i + 6) 0 → h ≡ get_or l (i + 7) 0
-    → a + b * 0x100 + c * 0x1_0000 + d * 0x100_0000 + (e + f * 0x100 + g * 0x1_0000 + h * 0x100_0000) * 0x1_0000_0000 ≡ little_endian (take 8 (drop i l))
+-- eight bytes, as `from_le_bytes` puts them together
+pub word_is : (l : List ℕ) (i : ℕ) → i + 8 ≤ length l
+    → from_le_bytes w64 (get_or l i 0 ∷ get_or l (i + 1) 0 ∷ get_or l (i + 2) 0 ∷ get_or l (i + 3) 0 ∷ get_or l (i + 4) 0 ∷ get_or l (i + 5) 0 ∷ get_or l (i + 6) 0 ∷ get_or l (i + 7) 0 ∷ [])
+    ≡ little_endian (take 8 (drop i l))
 unfolding little_endian
-word_is l i a b c d e f g h fits ea eb ec ed ee ef eg eh =
-    rw (ea, eb, ec, ed, ee, ef, eg, eh) (simp towards_suc (omega (arith, ap little_endian (firsts_take 8 i l fits))))
+word_is l i fits = simp towards_suc (omega (arith, ap little_endian (firsts_take 8 i l fits)))
 
 pub pow_step : (n v : ℕ) → 256 ^ suc n * v ≡ 256 * (256 ^ n * v)
 pow_step n v = ap (λ (x : ℕ). x * v) (pow-suc 256 n ∙ mul_comm (256 ^ n) 256) ∙ mul_assoc 256 (256 ^ n) v
@@ -52,15 +53,31 @@ word_lt m a h p q = omega arith
 four_lt : (a b c d : ℕ) → a < 2 ^ 64 → b < 2 ^ 64 → c < 2 ^ 64 → d < 2 ^ 64 → four a b c d < 2 ^ 256
 four_lt a b c d ha hb hc hd = word_lt (2 ^ 192) a _ ha (word_lt (2 ^ 128) b _ hb (word_lt (2 ^ 64) c d hc hd))
 
--- two numbers compared from the lowest word on: the first words that differ decide
-pub word_differs : (a b x y : ℕ) → a < 2 ^ 64 → b < 2 ^ 64 → (a ≡ b → ⊥) → eqb (a + 2 ^ 64 * x) (b + 2 ^ 64 * y) ≡ false
-word_differs a b x y ha hb h = ne_eqb (a + 2 ^ 64 * x) (b + 2 ^ 64 * y) (λ e. h (omega arith))
+-- two numbers are equal if their lowest words are and what stands above these
+word_split : (a b x y : ℕ) → a < 2 ^ 64 → b < 2 ^ 64 → eqb (a + 2 ^ 64 * x) (b + 2 ^ 64 * y) ≡ eqb a b && eqb x y
+word_split a b x y ha hb =
+    by_test (eqb a b)
+    (λ t. let low = eqb-true a b t in
+    rw t (by_test (eqb x y)
+    (λ u. let high = eqb-true x y u in rw (u, eq-eqb (a + 2 ^ 64 * x) (b + 2 ^ 64 * y) (omega arith)) refl)
+    (λ u. let high = eqb-false x y u in rw (u, ne_eqb (a + 2 ^ 64 * x) (b + 2 ^ 64 * y) (λ e. high (omega arith))) refl)))
+    (λ f. let low = eqb-false a b f in rw (f, ne_eqb (a + 2 ^ 64 * x) (b + 2 ^ 64 * y) (λ e. low (omega arith))) refl)
 
-pub word_level : (a b x y : ℕ) → a ≡ b → eqb (a + 2 ^ 64 * x) (b + 2 ^ 64 * y) ≡ eqb x y
-word_level a b x y e =
-    by_test (eqb x y)
-    (λ t. let same = eqb-true x y t in eq-eqb (a + 2 ^ 64 * x) (b + 2 ^ 64 * y) (omega arith) ∙ sym t)
-    (λ f. let other = eqb-false x y f in ne_eqb (a + 2 ^ 64 * x) (b + 2 ^ 64 * y) (λ g. other (omega arith)) ∙ sym f)
+and_true : (t : Bool) → t && true ≡ t
+and_true true = refl
+and_true false = refl
+
+four_words : (l : List ℕ) → length l ≡ 4 → l ≡ firsts 4 0 l
+four_words l h = sym (firsts_take 4 0 l (omega arith) ∙ take_all 4 l (omega arith))
+
+-- the words of two sums are equal exactly if the sums are
+pub same_words : (a b : List ℕ) → length a ≡ 4 → length b ≡ 4 → ((k : ℕ) → get_or a k 0 < 2 ^ 64) → ((k : ℕ) → get_or b k 0 < 2 ^ 64) → pointwise eqb a b ≡ eqb (sum_in a) (sum_in b)
+same_words a b na nb fa fb =
+    ap₂ (pointwise eqb) (four_words a na) (four_words b nb)
+    ∙ sym (word_split _ _ _ _ (fa 0) (fb 0)
+    ∙ ap (λ (t : Bool). eqb (get_or a 0 0) (get_or b 0 0) && t) (word_split _ _ _ _ (fa 1) (fb 1)
+    ∙ ap (λ (t : Bool). eqb (get_or a 1 0) (get_or b 1 0) && t) (word_split _ _ _ _ (fa 2) (fb 2)
+    ∙ ap (λ (t : Bool). eqb (get_or a 2 0) (get_or b 2 0) && t) (sym (and_true (eqb (get_or a 3 0) (get_or b 3 0)))))))
 
 -- the number of 32 bytes is that of their four words
 pub words_are : (l : List ℕ) (a b c d : ℕ) → 32 ≤ length l

@@ -71,13 +71,6 @@ put-behind t s out o₁ last n e h p q =
 pub length_part : (o : List ℕ) (n : ℕ) → length (rest n o) ≡ length o - n
 length_part o n = ap length (take_all (length o - n) (drop n o) (rw (length-drop n o) (omega arith))) ∙ length-drop n o
 
--- a part that begins behind the end, and one that ends there
-pub no_part : (m : List ℕ) (at n : ℕ) → length m ≤ at → [] ≡ take n (drop at m)
-no_part m at n h = rw (drop_of_length-le m h) (sym (take_all n [] (omega arith)))
-
-pub short_part : (m : List ℕ) (at n : ℕ) → length m - at ≤ n → take (length m - at) (drop at m) ≡ take n (drop at m)
-short_part m at n h = take_all (length m - at) (drop at m) (rw (length-drop at m) (omega arith)) ∙ sym (take_all n (drop at m) (rw (length-drop at m) h))
-
 -- ---- hex
 
 pub length-hex : (s : List ℕ) → length (hex s) ≡ length s * 2

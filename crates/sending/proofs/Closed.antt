@@ -109,9 +109,6 @@ module _ (T : Table) (size n : ℕ) (e : size + 19 ≡ n) (whole done : List Ran
       pub written-taken : t.verdict ≡ taken
       written-taken = closed-taken true T size n e whole done c k o same-room t p
 
-      pub closed-length : t.writer.at ≡ length (sent_message (bytes n) (items T) whole)
-      closed-length = closed-behind true T size n e whole done c k o same-room t p
-
       pub closed-out : t.out ≡ overwrite (sent_message (bytes n) (items T) whole) out
       unfolding overwrite
       closed-out =

@@ -155,9 +155,6 @@ module _ (target : List Range) (out : List ℕ) (t : State) (r : WellFormed targ
   unfolding overwrite
   sent-out = handed_out target out t p some all-taken
 
-  pub sent-length : t.writer.at ≡ length (write_message target)
-  sent-length = handed_at true target (lay (0x61 ∷ []) out) t p all-taken
-
 -- ---- what the call answers
 
 module _ (message out : List ℕ) where

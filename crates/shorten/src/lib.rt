@@ -29,7 +29,7 @@ use table::search::first_at_or_above;
 use writer::write::{Pass, Writer};
 
 // Where handing ranges over stopped: the writer; the place in the table of the last bound that is written, where a skip waits; and the span of
-// the range that did not fit, if it lists the own ids there.
+// the range that did not fit, if it lists the own ids there. Span and flag stay apart, as `Stopped`, `Stands` and `Closes` (specs/Private.antt) have them.
 #[derive(Clone, Copy)]
 pub struct Stop {
     pub writer: Writer,

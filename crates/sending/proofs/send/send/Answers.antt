@@ -19,19 +19,12 @@ returns-in_default c =
     rw (c.in-None.is, unlimited-whole (items (lent a.times.now a.own.now)) whole)
     (no_room (write_message whole) a.out.now (told-over _ _ (sym c.measure.ensures ∙ c.in_default.is)))
 
-pub send_whole-requires : goal.send_whole-requires
-send_whole-requires c = (c.requires.0, c.requires.1, c.requires.2, (told-fits _ _ _ (sym c.measure.ensures ∙ c.in-Some-measure.is)).1)
-
 pub returns-in-Some-measure : goal.returns-in-Some-measure
 returns-in-Some-measure c =
     let a = c.args in
     rw (c.in-None.is, unlimited-whole (items (lent a.times.now a.own.now)) (to_send a.kind (cut_of a.cut) (lent a.times.now a.own.now) a.m.now)) c.send_whole.ensures
 
 -- ---- with one
-pub send_whole-requires-in-Some-measure-2 : goal.send_whole-requires-in-Some-measure-2
-send_whole-requires-in-Some-measure-2 c =
-    (c.requires.0, c.requires.1, c.requires.2, (told-fits _ _ _ (sym c.measure-in-Some.ensures ∙ c.in-Some-measure-2.is)).1)
-
 pub returns-in-Some-measure-2 : goal.returns-in-Some-measure-2
 returns-in-Some-measure-2 c =
     let a = c.args in

@@ -43,11 +43,6 @@ stop_message-stop-requires c =
     let x = c.requires.4 in
     (c.requires.0, c.requires.1, c.requires.2, omega arith, omega arith)
 
-pub close-closing-requires : goal.close-closing-requires
-close-closing-requires c =
-    let r = least-room c.args.most c.requires.3 in
-    (c.requires.0, c.stop_message-stop.ensures.1, omega arith)
-
 pub put_closing-requires : goal.put_closing-requires
 put_closing-requires c =
     let k = closes _ _ _ _ _ c.requires.3 c.requires.4 c.stop_message-stop.ensures.0 c.close-closing.ensures in

@@ -1,7 +1,7 @@
 // The calls for C and Rust, declared for C in include/recon.h: those of `session` on numbers and slices, with the same equations as their contracts.
 #![tactic(auto)]
 
-ghost use Rattle.std.specs.Prelude.{◌≡◌, length};
+ghost use Rattle.std.specs.Prelude.{List, ℕ, ◌≡◌, length};
 ghost use Rattle.sha256.specs.Fips180.{digest};
 ghost use Rattle.table.specs.Answer.{bytes_in};
 ghost use Rattle.table.specs.Code.{answer_of, lent};

@@ -109,15 +109,15 @@ pub(crate) fn tell_opened(opened: Result<Opened, Refusal>) -> SessionAnswer
 impl From<Session> for session::opener::Session {
     ghost from_gives = { λ s r. session_in r ≡ session_by s };
 
-    fn from(session: Session) -> session::opener::Session {
-        let sum = session.label.sum;
+    fn from(lent: Session) -> session::opener::Session {
+        let sum = lent.label.sum;
         session::opener::Session {
-            marked: session.marked,
-            needed: session.needed,
-            done: session.done,
+            marked: lent.marked,
+            needed: lent.needed,
+            done: lent.done,
             label: label::Label {
                 sum,
-                count: session.label.count,
+                count: lent.label.count,
             },
         }
     }

@@ -65,7 +65,9 @@ fn reply_with(
     true
 }
 
-// As `reply_of_table`, with an index of at most W ids, and room for what is found of F ids at a time.
+// As `reply_of_table`, with an index of at most W ids, and room for what is found of F ids at a time. Not inlined: a short reply is not to pay for a stack
+// that has room for the large arrays.
+#[inline(never)]
 fn reply_sized<const W: usize, const P: usize, const F: usize>(
     times: &[u64],
     own: &[u8],

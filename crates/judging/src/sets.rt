@@ -31,6 +31,7 @@ fn all_listed(
     ensures { result ≡ every (λ d. some (same d) (ids_in count list.now)) (ids_in n ids.now) }
 {
     let mut i = 0;
+    // No `for`: how many ids are next, `block` says.
     while i < n {
         let part = block(n - i, count, words.len(), found.len());
         let at = i * 32;

@@ -1,7 +1,7 @@
 // The calls for C and Rust, declared for C in include/recon.h: those of `session` on numbers and slices, with the same equations as their contracts.
 #![tactic(auto)]
 
-ghost use Rattle.std.specs.Prelude.{◌≡◌, length};
+ghost use Rattle.std.specs.Prelude.{List, ℕ, ◌≡◌, length};
 ghost use Rattle.sha256.specs.Fips180.{digest};
 ghost use Rattle.table.specs.Answer.{bytes_in};
 ghost use Rattle.table.specs.Code.{answer_of, lent};
@@ -109,15 +109,15 @@ pub(crate) fn tell_opened(opened: Result<Opened, Refusal>) -> SessionAnswer
 impl From<Session> for session::opener::Session {
     ghost from_gives = { λ s r. session_in r ≡ session_by s };
 
-    fn from(session: Session) -> session::opener::Session {
-        let sum = session.label.sum;
+    fn from(lent: Session) -> session::opener::Session {
+        let sum = lent.label.sum;
         session::opener::Session {
-            marked: session.marked,
-            needed: session.needed,
-            done: session.done,
+            marked: lent.marked,
+            needed: lent.needed,
+            done: lent.done,
             label: label::Label {
                 sum,
-                count: session.label.count,
+                count: lent.label.count,
             },
         }
     }

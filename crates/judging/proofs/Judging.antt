@@ -3,6 +3,8 @@ use Prim.Native.Nat.{ℕ, ◌≤◌, ◌<◌}
 use mathlib.Core.Path.{◌≡◌, refl, sym, ap, ◌∙◌}
 use mathlib.Core.Bool.{Bool, true, false, ◌&&◌}
 use mathlib.Core.List.{List, [], ◌∷◌}
+use Rattle.std.specs.Prelude.{Option, Some, None}
+use Rattle.std.proofs.Math.Bool.{and-true}
 use native.Mathlib.Omega.{arith}
 use lib.ListN.{length}
 use Rattle.message.specs.Bound as B
@@ -26,7 +28,6 @@ use Rattle.judge.specs.Judge.{is_skip, whole, meeting, of_table, answers, every_
 use Rattle.judge.proofs.Places.{bound_top}
 use Rattle.judging.specs.Private.{truth, met_from, wants, PassedUpTo, Answering}
 use Rattle.judging.specs.declared.merge.Asked.{Asked}
-use Rattle.judging.specs.declared.merge.Met.{Met}
 use Rattle.judging.proofs.Merging.{met_start}
 
 -- the key of a bound, by its time and its prefix
@@ -103,32 +104,32 @@ module _ (T : Table) (query reply : List ℕ) where
   module _ (w o : Walk) (h : Judging w o) where
     module _ (by : Bytes query) (s : Step) (step : Stepped T query w s) (a : Asked)
         (says : (ps : List Payload) → wants a ps ≡ answers (own_in T s.span) (payload_of s.payload query) ps)
-        (x : B.Bound) (ex : x ≡ lower_at w.cursor) (r : Met) (met : Answering a T reply o x (upper_of s.span) r) where
+        (x : B.Bound) (ex : x ≡ lower_at w.cursor) where
       abbrev y : B.Bound
       y = upper_of s.span
 
       ours : meeting (lower_at w.cursor) y start (whole (ranges_at reply starts.cursor)) ≡ met_from x y reply o
       ours = sym (met_start T reply (lower_at w.cursor) y) ∙ h.passed (lower_at w.cursor) y (omega arith) ∙ ap (λ (z : B.Bound). met_from z y reply o) (sym ex)
 
-      fits : asked (lower_at w.cursor) y (payload_of s.payload query) ≡ r.fits
-      fits = rw (step.own, ours, ← says (met_from x y reply o)) (sym met.fits)
+      fits : asked (lower_at w.cursor) y (payload_of s.payload query) ≡ wants a (met_from x y reply o)
+      fits = rw (step.own, ours, ← says (met_from x y reply o)) refl
 
-      one : whole_from asked query w ≡ (r.fits && whole_from asked query s.next)
-      one = whole_step asked query T w s step ∙ ap (λ (b : Bool). b && whole_from asked query s.next) fits
+      one : (b : Bool) → wants a (met_from x y reply o) ≡ b → whole_from asked query w ≡ (b && whole_from asked query s.next)
+      one b e = whole_step asked query T w s step ∙ ap (λ (b : Bool). b && whole_from asked query s.next) (fits ∙ e)
 
-      pub judging_next : r.fits ≡ true → Judging s.next r.next
-      judging_next e =
+      pub judging_next : (o' : Walk) → Answering a T reply o x y (Some o') → Judging s.next o'
+      judging_next o' met =
           let up = step_rises T query w s by h.walking step in
           record {
             walking = step.next;
-            other = met.walking;
-            low = rw step.upper met.low;
-            passed = λ c d g. let l : key y ≤ key c = rw step.upper at g in h.passed c d (omega (arith, up.0)) ∙ met.passed c d l;
-            rest = h.rest ∙ one ∙ rw e refl;
+            other = met.1.walking;
+            low = rw step.upper met.1.low;
+            passed = λ c d g. let l : key y ≤ key c = rw step.upper at g in h.passed c d (omega (arith, up.0)) ∙ met.1.passed c d l;
+            rest = h.rest ∙ one true met.0;
           }
 
-      pub judging_stop : r.fits ≡ false → false ≡ every_range asked (whole (ranges_at query starts.cursor))
-      judging_stop e = sym (h.rest ∙ one ∙ rw e refl)
+      pub judging_stop : Answering a T reply o x y None → false ≡ every_range asked (whole (ranges_at query starts.cursor))
+      judging_stop e = sym (h.rest ∙ one false e)
 
     pub judging_end : length query ≤ w.cursor.at → (x : B.Bound) → x ≡ lower_at w.cursor → (r : Bool) → r ≡ every is_skip (met_from x infinity reply o)
         → r ≡ every_range asked (whole (ranges_at query starts.cursor))
@@ -136,8 +137,4 @@ module _ (T : Table) (query reply : List ℕ) where
     judging_end l x ex r e =
         let ours : meeting (lower_at w.cursor) infinity start (whole (ranges_at reply starts.cursor)) ≡ met_from x infinity reply o =
         sym (met_start T reply (lower_at w.cursor) infinity) ∙ h.passed (lower_at w.cursor) infinity (omega arith) ∙ ap (λ (z : B.Bound). met_from z infinity reply o) (sym ex) in
-        sym (h.rest ∙ whole-end asked query w l ∙ rw (ours, ← e) (unit r))
-      where
-        unit : (b : Bool) → (b && true) ≡ b
-        unit true = refl
-        unit false = refl
+        sym (h.rest ∙ whole-end asked query w l ∙ rw (ours, ← e) (and-true r))

@@ -1,11 +1,11 @@
 -- Lists of ids in bytes, in the same order and as sets; what a range says, by the own items there.
 use Prim.Native.Nat.{ℕ, zero, suc, ◌+◌, ◌-◌, ◌*◌, ◌≤◌, ◌<◌}
-use mathlib.Core.Path.{◌≡◌, refl, sym, ap, ap₂, ◌∙◌}
+use mathlib.Core.Path.{◌≡◌, refl, sym, ap, ◌∙◌}
 use mathlib.Core.Bool.{Bool, true, false, cond}
-use mathlib.Core.List.{List, [], ◌∷◌, ◌++◌}
+use mathlib.Core.List.{List, [], ◌∷◌}
 use native.Mathlib.Omega.{arith}
-use native.Mathlib.Numerals.{add-one}
-use lib.Dec.{ltb}
+use lib.Dec.{ltb, eqb}
+use lib.Pointwise.{pointwise}
 use lib.ListN.{length, take, drop, get_or}
 use lib.Seq.{drop-drop}
 use borrow.Author.Tests.{ltb-true, ltb-false}
@@ -16,12 +16,13 @@ use Rattle.reader.proofs.Listing.{part-from}
 use Rattle.table.specs.Lists.{every}
 use Rattle.table.specs.Table.{Item, Table}
 use Rattle.table.specs.Private.{Passed}
+use Rattle.table.proofs.Ids.{ids-part}
 use Rattle.table.proofs.Items.{ids-run}
-use Rattle.label.proofs.Ids.{ids_more}
 use Rattle.cutting.specs.Private.{run}
 use Rattle.cutting.specs.Cutting.{fingerprint_of}
 use Rattle.ends.specs.Lists.{some, same}
 use Rattle.ends.proofs.Tables.{same_true}
+use Rattle.idlist.proofs.Searching.{same_pointwise}
 use Rattle.index.specs.Lookup.{listed}
 use Rattle.judge.specs.Judge.{is_skip, same_ids, of_table, divides, answers}
 use Rattle.judge.proofs.Exact.{ids-same}
@@ -41,14 +42,11 @@ module _ (l own : List (List ℕ)) where
   unfolding same_ids
   listed-both b e d = rw (← e) d
 
--- one id more is the same
-pub order-next : (list other : List ℕ) (i : ℕ) → ids_in i list ≡ ids_in i other → same (take 32 (drop (i * 32) list)) (take 32 (drop (i * 32) other)) ≡ true
-    → ids_in (i + 1) list ≡ ids_in (i + 1) other
-order-next list other i e d =
-    let more : (l : List ℕ) → ids_in (i + 1) l ≡ ids_in i l ++ take 32 (drop (i * 32) l) ∷ [] = λ l. ap (λ (k : ℕ). ids_in k l) (add-one i) ∙ ids_more i l in
-    more list
-    ∙ ap₂ (λ (l : List (List ℕ)) (x : List ℕ). l ++ x ∷ []) e (same_true (take 32 (drop (i * 32) list)) (take 32 (drop (i * 32) other)) d)
-    ∙ sym (more other)
+-- lists that begin with the same bytes have the same ids there
+pub same_front : (n : ℕ) (l own : List ℕ) → pointwise eqb (take (n * 32) l) (take (n * 32) own) ≡ true → ids_in n l ≡ ids_in n own
+same_front n l own e =
+    let is : take (n * 32) l ≡ take (n * 32) own = same_true _ _ (sym (same_pointwise _ _) ∙ e) in
+    sym (ids-part n l) ∙ ap (ids_in n) is ∙ ids-part n own
 
 -- ---- every id of a list, by its place
 
@@ -69,10 +67,6 @@ module _ (test : List ℕ → Bool) where
       by_test (test (take 32 l)) (λ t. rw (t, rest) refl) (λ t. rw t refl)
 
 -- ---- ids looked up block by block
-
-pub none-zero : (found : List ℕ) (i : ℕ) → Noted found i true → (get_or found i 0 ≡ 0 → ⊥) → Noted found (i + 1) true
-none-zero found i h this k lt e =
-    by_test (ltb k i) (λ t. h k (ltb-true k i t) e) (λ t. let le = ltb-false k i t in let is : k ≡ i = omega arith in this (rw is at e))
 
 flag_true : (b : Bool) (x : ℕ) → x ≡ cond b 1 0 → (x ≡ 0 → ⊥) → b ≡ true
 flag_true true x e h = refl

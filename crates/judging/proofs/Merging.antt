@@ -7,6 +7,9 @@ use native.Mathlib.Omega.{arith}
 use lib.Dec.{ltb}
 use lib.ListN.{length}
 use borrow.Author.Tests.{ltb-true, ltb-false, lt-ltb, le-ltb}
+use Rattle.std.specs.Prelude.{Option}
+use Rattle.std.specs.Bool.{then_some}
+use Rattle.std.proofs.Math.Bool.{and-true, and-false}
 use Rattle.message.specs.Bound.{Bound, infinity, key, start}
 use Rattle.message.specs.Message.{Payload, skip, Range, range}
 use Rattle.message.specs.Code.{payload_of}
@@ -29,25 +32,17 @@ use Rattle.judging.proofs.Noting.{nothing, wants_all}
 
 -- ---- ranges that meet
 
-and_false : (b : Bool) → (b && false) ≡ false
-and_false true = refl
-and_false false = refl
-
-and_unit : (b : Bool) → (b && true) ≡ b
-and_unit true = refl
-and_unit false = refl
-
 meets-behind : (x y a b : Bound) → key b ≤ key x → meets x y a b ≡ false
 unfolding meets
 meets-behind x y a b h = rw (le-ltb (key x) (key b) h)
 
 meets_ahead : (x y a b : Bound) → key y ≤ key a → meets x y a b ≡ false
 unfolding meets
-meets_ahead x y a b h = rw (le-ltb (key a) (key y) h) (and_false (ltb (key x) (key b)))
+meets_ahead x y a b h = rw (le-ltb (key a) (key y) h) (and-false (ltb (key x) (key b)))
 
 pub meets-before : (x y a b : Bound) → key a < key y → meets x y a b ≡ ltb (key x) (key b)
 unfolding meets
-meets-before x y a b h = rw (lt-ltb (key a) (key y) h) (and_unit (ltb (key x) (key b)))
+meets-before x y a b h = rw (lt-ltb (key a) (key y) h) (and-true (ltb (key x) (key b)))
 
 -- no range behind y meets what ends there
 pub none_ahead : (x y a : Bound) (rs : List Range) → Rising a rs → key y ≤ key a → meeting x y a (whole rs) ≡ []
@@ -98,6 +93,11 @@ module _ (T : Table) (m : List ℕ) where
     abbrev Noted : Sofar → Sofar → Bool → Payload → Type 0
     Noted s r meets p = (ps : List Payload) → concludes a r ps ≡ concludes a s (cond meets (p ∷ []) [] ++ ps)
 
+    answered_if : (fits : Bool) → fits ≡ wants a (met_from x y m w₀) → (w : Walk) → Walking T m w → key (lower_at w.cursor) ≤ key y → PassedUpTo y m w₀ w
+        → Answering a T m w₀ x y (then_some fits w)
+    answered_if true e w h l p = (sym e, record { walking = h; low = l; passed = p })
+    answered_if false e w h l p = sym e
+
     pub merging_start : Walking T m w₀ → key (lower_at w₀.cursor) ≤ key x → key x < key y → Merging nothing w₀
     merging_start h l g = record { walking = h; low = omega arith; sofar = wants_all a (met_from x y m w₀); passed = λ c d e. refl }
 
@@ -124,22 +124,12 @@ module _ (T : Table) (m : List ℕ) where
               passed = λ c d g. h.passed c d g ∙ passes l c d g;
             }
 
-        pub merging_stop : Bytes m → ltb (key (upper_of st.span)) (key y) ≡ false → (fits : Bool) → fits ≡ concludes a r [] → Answering a T m w₀ x y (record { fits = fits; next = w })
+        pub merging_stop : Bytes m → ltb (key (upper_of st.span)) (key y) ≡ false → (fits : Bool) → fits ≡ concludes a r [] → Answering a T m w₀ x y (then_some fits w)
         merging_stop by t fits f =
             let l = ltb-false (key (upper_of st.span)) (key y) t in
-            record {
-              fits = f ∙ sym (one_more ∙ ap (concludes a r) (met-none by st.next step.next x y (rw step.upper l)));
-              walking = h.walking;
-              low = omega (arith, h.low);
-              passed = h.passed;
-            }
+            answered_if fits (f ∙ sym (one_more ∙ ap (concludes a r) (met-none by st.next step.next x y (rw step.upper l)))) w h.walking (omega (arith, h.low)) h.passed
 
-      pub merging_end : key x < key infinity → length m ≤ w.cursor.at → Noted s r true skip → (fits : Bool) → fits ≡ concludes a r [] → Answering a T m w₀ x y (record { fits = fits; next = w })
+      pub merging_end : key x < key infinity → length m ≤ w.cursor.at → Noted s r true skip → (fits : Bool) → fits ≡ concludes a r [] → Answering a T m w₀ x y (then_some fits w)
       merging_end l g n fits f =
           let same : meets x y (lower_at w.cursor) infinity ≡ true = meets-before x y (lower_at w.cursor) infinity h.low ∙ lt-ltb (key x) (key infinity) l in
-          record {
-            fits = f ∙ n [] ∙ sym (h.sofar ∙ ap (concludes a s) (met-end w g x y ∙ rw same));
-            walking = h.walking;
-            low = omega (arith, h.low);
-            passed = h.passed;
-          }
+          answered_if fits (f ∙ n [] ∙ sym (h.sofar ∙ ap (concludes a s) (met-end w g x y ∙ rw same))) w h.walking (omega (arith, h.low)) h.passed

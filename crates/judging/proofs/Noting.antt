@@ -6,7 +6,9 @@ use mathlib.Core.List.{List, [], ◌∷◌}
 use native.Mathlib.Omega.{arith}
 use lib.Dec.{leb}
 use lib.ListN.{length}
-use borrow.Author.Tests.{le-leb}
+use Rattle.std.proofs.lemmas.Bool.Decides.{nat_tests}
+use Rattle.std.proofs.Math.Bool.{and-true, and_assoc}
+use Rattle.std.specs.Prelude.{min}
 use Rattle.message.specs.Message.{Payload}
 use Rattle.table.specs.Lists.{every}
 use Rattle.judge.specs.Judge.{is_skip, is_ids, divides}
@@ -16,14 +18,6 @@ use Rattle.judging.specs.declared.merge.Sofar.{Sofar}
 
 -- ---- tests
 
-and_unit : (b : Bool) → (b && true) ≡ b
-and_unit true = refl
-and_unit false = refl
-
-and_assoc : (x y z : Bool) → ((x && y) && z) ≡ (x && (y && z))
-and_assoc true y z = refl
-and_assoc false y z = refl
-
 shuffle : (x y z w : Bool) → ((x && y) && (z && w)) ≡ (x && ((y && z) && w))
 shuffle true true z w = refl
 shuffle true false z w = refl
@@ -31,11 +25,9 @@ shuffle false y z w = refl
 
 -- ---- how many
 
-pub more_room : (n k : ℕ) → leb 2 (n + 1 + k) ≡ leb 2 (n + suc k)
-more_room n k = let e : n + 1 + k ≡ n + suc k = omega arith in ap (leb 2) e
-
-pub room_already : (n k : ℕ) → 2 ≤ n → leb 2 (n + k) ≡ leb 2 (n + suc k)
-room_already n k h = le-leb 2 (n + k) (omega arith) ∙ sym (le-leb 2 (n + suc k) (omega arith))
+-- a count that stops at a largest number of 2 or more tells whether there are two
+pub counted_on : (n top k : ℕ) → 2 ≤ top → leb 2 (min (n + 1) top + k) ≡ leb 2 (n + suc k)
+counted_on n top k h = grind (arith, nat_tests)
 
 -- ---- one more, and the end
 
@@ -46,7 +38,7 @@ roomy-more Asked.Ids l i all n n' e = refl
 
 roomy-end : (a : Asked) (l : Bool) (n : ℕ) → roomy a (l && true) (n + 0) ≡ roomy a l n
 roomy-end Asked.Skip l n = refl
-roomy-end Asked.Division l n = let z : n + 0 ≡ n = omega arith in rw (and_unit l, z)
+roomy-end Asked.Division l n = let z : n + 0 ≡ n = omega arith in rw (and-true l, z)
 roomy-end Asked.Ids l n = refl
 
 module _ (a : Asked) (s r : Sofar) where
@@ -57,9 +49,14 @@ module _ (a : Asked) (s r : Sofar) where
       let room = roomy-more a s.listed (is_ids p) (every is_ids ps) (r.met + length ps) (s.met + suc (length ps)) (h (length ps)) in
       rw (e, d, room) (shuffle s.fits (allowed a p) (every (allowed a) ps) (roomy a (s.listed && (is_ids p && every is_ids ps)) (s.met + suc (length ps))))
 
-pub concluded : (a : Asked) (s : Sofar) (r enough : Bool) → enough ≡ roomy a s.listed s.met → r ≡ (s.fits && enough) → r ≡ concludes a s []
-unfolding concludes every
-concluded a s r enough e d = d ∙ ap (λ (b : Bool). s.fits && b) (e ∙ sym (roomy-end a s.listed s.met))
+module _ (a : Asked) (s : Sofar) where
+  pub concluded : s.fits ≡ true → (r : Bool) → r ≡ roomy a s.listed s.met → r ≡ concludes a s []
+  unfolding concludes every
+  concluded f r e = rw f (e ∙ sym (roomy-end a s.listed s.met))
+
+  pub not_concluded : s.fits ≡ false → false ≡ concludes a s []
+  unfolding concludes
+  not_concluded f = rw f refl
 
 -- ---- nothing met
 
@@ -68,6 +65,6 @@ nothing = record { fits = true; met = 0; listed = true }
 
 pub wants_all : (a : Asked) (ps : List Payload) → wants a ps ≡ concludes a nothing ps
 unfolding concludes divides
-wants_all Asked.Skip ps = sym (and_unit (every is_skip ps))
+wants_all Asked.Skip ps = sym (and-true (every is_skip ps))
 wants_all Asked.Division ps = let z : 0 + length ps ≡ length ps = omega arith in rw z
-wants_all Asked.Ids ps = sym (and_unit (every is_ids ps))
+wants_all Asked.Ids ps = sym (and-true (every is_ids ps))

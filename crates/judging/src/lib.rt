@@ -23,10 +23,10 @@ fn approves(times: &[u64], ids: &[u8], query: &[u8], reply: &[u8]) -> bool
     requires { Passed (lent times.now ids.now) }
     ensures { result ≡ verdict (items (lent times.now ids.now)) (read_message query.now) (read_message reply.now) }
 {
-    check_message(query).is_ok()
-        && check_message(reply).is_ok()
-        && query_answered(times, ids, query, reply)
-        && reply_of_table(times, ids, reply)
+    if check_message(query).is_err() || check_message(reply).is_err() {
+        return false;
+    }
+    query_answered(times, ids, query, reply) && reply_of_table(times, ids, reply)
 }
 
 // Whether the reply is a lawful one to the query, of a responder with this table: yes, no, or the refusal 1 or 2 of the table. A message that cannot be read,

@@ -15,7 +15,7 @@ use crate::sets::same_ids;
 use cutting::Span;
 use exchange::treat::equals_own;
 use message::Payload;
-use walk::Walk;
+use walk::{Step, Walk};
 
 // Whether what a range says is so of the span's own items.
 fn of_table(
@@ -56,24 +56,24 @@ fn reply_with(
 {
     let mut walk = Walk::start();
     while walk.cursor.at < reply.len() {
-        let step = walk.step(reply, times, own);
-        let span = step.span;
-        let payload = step.payload;
+        let Step { span, payload, next } = walk.step(reply, times, own);
         if !of_table(reply, times, own, span, payload, words, pos, found) {
             return false;
         }
-        walk = step.next;
+        walk = next;
     }
     true
 }
 
-// The same, with room for so many ids.
+// As `reply_of_table`, with an index of at most W ids, and room for what is found of F ids at a time. Not inlined: a short reply is not to pay for a stack
+// that has room for the large arrays.
+#[inline(never)]
 fn reply_sized<const W: usize, const P: usize, const F: usize>(
     times: &[u64],
     own: &[u8],
     reply: &[u8],
 ) -> bool
-    requires { Passed (lent times.now own.now) × Walking (lent times.now own.now) reply.now starts × (0 < W) × (W + W + 1 < P) × (W ≤ 1048576) × (0 < F) }
+    requires { Passed (lent times.now own.now) × Walking (lent times.now own.now) reply.now starts × (0 < W) × (W + W + 1 < P) × (P ≤ 1048576) × (0 < F) × (F ≤ 1048576) }
     ensures { result ≡ every_range (truth (lent times.now own.now)) (ranges_at reply.now starts.cursor) }
 {
     let mut words = [0u64; W];

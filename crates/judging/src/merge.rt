@@ -1,5 +1,5 @@
 // Query and reply side by side: for each range of the query, the reply's ranges that meet it.
-ghost use Rattle.std.specs.Prelude.{ℕ, suc, ◌+◌, ◌≤◌, ◌<◌, ◌≡◌, cond, ◌&&◌, List, [], ◌∷◌, ◌++◌, leb, ltb, length};
+ghost use Rattle.std.specs.Prelude.{ℕ, ◌≤◌, ◌<◌, ◌≡◌, cond, List, [], ◌∷◌, ◌++◌, ltb, length};
 ghost use Rattle.message.specs.Bound.{infinity, key};
 ghost use Rattle.message.specs.Message as M;
 ghost use Rattle.message.specs.Code.{payload_of};
@@ -7,23 +7,17 @@ ghost use Rattle.writer.specs.Private as W;
 ghost use Rattle.table.specs.Lists.{every};
 ghost use Rattle.table.specs.Code.{lent};
 ghost use Rattle.table.specs.Private.{Passed};
-ghost use Rattle.cutting.specs.Private.{own_in, Inside};
+ghost use Rattle.cutting.specs.Private.{own_in, upper_of, Inside};
 ghost use Rattle.reader.specs.Private.{lower_at, ranges_at};
 ghost use Rattle.walk.specs.Walking.{starts, Walking};
 ghost use Rattle.judge.specs.Judge.{is_skip, is_ids, whole, answers, every_range};
-ghost use Rattle.judging.specs.Private.{answered, edge_of, met_from, wants, allowed, roomy, concludes, Answering};
+ghost use Rattle.judging.specs.Private.{answered, bound_at, met_from, wants, allowed, roomy, concludes, Answering};
 
 use cutting::Span;
+use cutting::between::Placed;
 use exchange::treat::equals_own;
 use message::{Bound, Payload, below};
-use walk::Walk;
-
-// A bound with its prefix beside it.
-#[derive(Clone, Copy)]
-pub(crate) struct Edge {
-    pub bound: Bound,
-    pub prefix: [u8; 32],
-}
+use walk::{Step, Walk};
 
 // What a range of the query asks of the reply: skips, a division of it, or ids.
 #[derive(Clone, Copy)]
@@ -33,7 +27,7 @@ pub(crate) enum Asked {
     Ids,
 }
 
-// Of the ranges met so far: whether each was what is asked for, how many there are (2 for more), and whether all list ids.
+// Of the ranges met so far: whether each was what is asked for, how many there are, and whether all list ids.
 #[derive(Clone, Copy)]
 pub(crate) struct Sofar {
     pub fits: bool,
@@ -41,44 +35,53 @@ pub(crate) struct Sofar {
     pub listed: bool,
 }
 
-// Whether a range is answered, and where the ranges for the next one begin.
-#[derive(Clone, Copy)]
-pub(crate) struct Met {
-    pub fits: bool,
-    pub next: Walk,
+// Whether one bound comes before another.
+fn is_below(a: Placed, b: Placed) -> bool
+    ensures { result ≡ ltb (key (bound_at a)) (key (bound_at b)) }
+{
+    below(
+        a.bound.time(),
+        a.bound.prefix(&a.prefix),
+        b.bound.time(),
+        b.bound.prefix(&b.prefix),
+    )
 }
 
-impl Edge {
-    fn is_below(self, other: Edge) -> bool
-        ensures { result ≡ ltb (key (edge_of self)) (key (edge_of other)) }
-    {
-        below(
-            self.bound.time(),
-            self.bound.prefix(&self.prefix),
-            other.bound.time(),
-            other.bound.prefix(&other.prefix),
-        )
+// The bound before a walk.
+fn lower_of(walk: Walk) -> Placed
+    ensures { bound_at result ≡ lower_at walk.cursor }
+{
+    let prefix = walk.cursor.prefix;
+    Placed {
+        bound: walk.cursor.lower,
+        prefix,
+    }
+}
+
+// The bound behind a range.
+fn upper_of(span: Span) -> Placed
+    ensures { bound_at result ≡ upper_of span }
+{
+    let prefix = span.prefix;
+    Placed {
+        bound: span.bound,
+        prefix,
     }
 }
 
 // Kinds of payloads.
+#[tactic(auto, unfolding(judge::specs::Judge::is_skip))]
 fn is_skip(payload: Payload) -> bool
     ensures { (m : List ℕ) → result ≡ is_skip (payload_of payload m) }
 {
     matches!(payload, Payload::Skip)
 }
 
+#[tactic(auto, unfolding(judge::specs::Judge::is_ids))]
 fn is_ids(payload: Payload) -> bool
     ensures { (m : List ℕ) → result ≡ is_ids (payload_of payload m) }
 {
     matches!(payload, Payload::Ids { .. })
-}
-
-// One more; 2 stands for more.
-fn one_more(n: usize) -> usize
-    ensures { (k : ℕ) → leb 2 (result + k) ≡ leb 2 (n + suc k) }
-{
-    if n < 2 { n + 1 } else { n }
 }
 
 impl Asked {
@@ -114,7 +117,7 @@ impl Sofar {
         }
         Sofar {
             fits: self.fits && asked.allows(payload),
-            met: one_more(self.met),
+            met: self.met.saturating_add(1),
             listed: self.listed && is_ids(payload),
         }
     }
@@ -145,71 +148,50 @@ fn asks(m: &[u8], times: &[u64], own: &[u8], span: Span, payload: Payload) -> As
     }
 }
 
-// Whether the reply, from a walk on, is what the query's range from `lower` to `upper` asks for. The last range that is read may reach beyond the query's:
-// the walk for the next one begins before it.
+// Where the reply, from a walk on, is what the query's range from `lower` to `upper` asks for: the walk for the query's next range. It begins before the last range
+// that was read, which may reach beyond `upper`.
 fn range_answered(
     asked: Asked,
     times: &[u64],
     own: &[u8],
     reply: &[u8],
-    walk: Walk,
-    lower: Edge,
-    upper: Edge,
-) -> Met
-    requires { Passed (lent times.now own.now) × Walking (lent times.now own.now) reply.now walk × (key (lower_at walk.cursor) ≤ key (edge_of lower)) × (key (edge_of lower) < key (edge_of upper)) × (key (edge_of upper) ≤ key infinity) }
-    ensures { Answering asked (lent times.now own.now) reply.now walk (edge_of lower) (edge_of upper) result }
+    mut walk: Walk,
+    lower: Placed,
+    upper: Placed,
+) -> Option<Walk>
+    requires { Passed (lent times.now own.now) × Walking (lent times.now own.now) reply.now walk × (key (lower_at walk.cursor) ≤ key (bound_at lower)) × (key (bound_at lower) < key (bound_at upper)) × (key (bound_at upper) ≤ key infinity) }
+    ensures { Answering asked (lent times.now own.now) reply.now walk (bound_at lower) (bound_at upper) result }
 {
-    let mut walk = walk;
     let mut sofar = Sofar {
         fits: true,
         met: 0,
         listed: true,
     };
     while walk.cursor.at < reply.len() {
-        let step = walk.step(reply, times, own);
-        let span = step.span;
-        let payload = step.payload;
-        let bound = span.bound;
-        let prefix = span.prefix;
-        let end = Edge { bound, prefix };
-        let meets = lower.is_below(end);
-        sofar = sofar.note(asked, meets, payload);
-        if !end.is_below(upper) {
-            return Met {
-                fits: sofar.conclude(asked),
-                next: walk,
-            };
+        let Step { span, payload, next } = walk.step(reply, times, own);
+        let end = upper_of(span);
+        sofar = sofar.note(asked, is_below(lower, end), payload);
+        if !is_below(end, upper) {
+            return sofar.conclude(asked).then_some(walk);
         }
-        walk = step.next;
+        walk = next;
     }
+    // a skip follows the last range
     sofar = sofar.note(asked, true, Payload::Skip);
-    Met {
-        fits: sofar.conclude(asked),
-        next: walk,
-    }
-}
-
-// The bound before a walk.
-fn edge_before(walk: Walk) -> Edge
-    ensures { edge_of result ≡ lower_at walk.cursor }
-{
-    let cursor = walk.cursor;
-    let bound = cursor.lower;
-    let prefix = cursor.prefix;
-    Edge { bound, prefix }
+    sofar.conclude(asked).then_some(walk)
 }
 
 // Whether what follows the query's last bound, a skip, is answered by skips.
-fn rest_answered(times: &[u64], own: &[u8], reply: &[u8], walk: Walk, lower: Edge) -> bool
-    requires { Passed (lent times.now own.now) × Walking (lent times.now own.now) reply.now walk × (key (lower_at walk.cursor) ≤ key (edge_of lower)) }
-    ensures { result ≡ every is_skip (met_from (edge_of lower) infinity reply.now walk) }
+fn rest_answered(times: &[u64], own: &[u8], reply: &[u8], walk: Walk, lower: Placed) -> bool
+    requires { Passed (lent times.now own.now) × Walking (lent times.now own.now) reply.now walk × (key (lower_at walk.cursor) ≤ key (bound_at lower)) }
+    ensures { result ≡ every is_skip (met_from (bound_at lower) infinity reply.now walk) }
 {
-    let prefix = [0u8; 32];
-    let end = Edge {
+    let end = Placed {
         bound: Bound::Infinity,
-        prefix,
+        prefix: [0; 32],
     };
-    !lower.is_below(end) || range_answered(Asked::Skip, times, own, reply, walk, lower, end).fits
+    !is_below(lower, end)
+        || range_answered(Asked::Skip, times, own, reply, walk, lower, end).is_some()
 }
 
 // Whether every range of the query is answered.
@@ -220,21 +202,15 @@ pub(crate) fn query_answered(times: &[u64], own: &[u8], query: &[u8], reply: &[u
     let mut walk = Walk::start();
     let mut other = Walk::start();
     while walk.cursor.at < query.len() {
-        let step = walk.step(query, times, own);
-        let span = step.span;
-        let payload = step.payload;
-        let bound = span.bound;
-        let prefix = span.prefix;
-        let upper = Edge { bound, prefix };
-        let lower = edge_before(walk);
+        let Step { span, payload, next } = walk.step(query, times, own);
+        let lower = lower_of(walk);
+        let upper = upper_of(span);
         let asked = asks(query, times, own, span, payload);
-        let met = range_answered(asked, times, own, reply, other, lower, upper);
-        if !met.fits {
+        let Some(met) = range_answered(asked, times, own, reply, other, lower, upper) else {
             return false;
-        }
-        other = met.next;
-        walk = step.next;
+        };
+        other = met;
+        walk = next;
     }
-    let lower = edge_before(walk);
-    rest_answered(times, own, reply, other, lower)
+    rest_answered(times, own, reply, other, lower_of(walk))
 }

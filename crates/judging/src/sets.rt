@@ -1,5 +1,5 @@
 // Lists of ids compared as sets: in any order and with any repeats.
-ghost use Rattle.std.specs.Prelude.{◌*◌, ◌≤◌, ◌≡◌, true, length};
+ghost use Rattle.std.specs.Prelude.{◌*◌, ◌≤◌, ◌≡◌, length};
 ghost use Rattle.message.specs.Code.{ids_in};
 ghost use Rattle.table.specs.Lists.{every};
 ghost use Rattle.ends.specs.Lists.{some, same};
@@ -7,17 +7,7 @@ ghost use Rattle.index.specs.Lookup.{Room};
 ghost use Rattle.judge.specs.Judge.{same_ids};
 ghost use Rattle.judging.specs.Private.{Noted};
 
-use idlist::stands_at;
 use index::lookup::{block, contains_each};
-use table::compare::word;
-
-// Whether two lists of `count` ids are the same, one id after the other.
-fn same_order(list: &[u8], other: &[u8], count: usize) -> bool
-    requires { (count * 32 ≤ length list.now) × (count * 32 ≤ length other.now) }
-    ensures { result ≡ true → ids_in count list.now ≡ ids_in count other.now }
-{
-    list[..count * 32] == other[..count * 32]
-}
 
 // Whether none of the first n bytes is 0.
 fn all_found(found: &[u8], n: usize) -> bool
@@ -41,6 +31,7 @@ fn all_listed(
     ensures { result ≡ every (λ d. some (same d) (ids_in count list.now)) (ids_in n ids.now) }
 {
     let mut i = 0;
+    // No `for`: how many ids are next, `block` says.
     while i < n {
         let part = block(n - i, count, words.len(), found.len());
         let at = i * 32;
@@ -66,7 +57,7 @@ pub(crate) fn same_ids(
     requires { (count * 32 ≤ length list.now) × (more * 32 ≤ length other.now) × Room words.old pos.old found.old }
     ensures { result ≡ same_ids (ids_in count list.now) (ids_in more other.now) }
 {
-    if count == more && same_order(list, other, count) {
+    if count == more && list[..count * 32] == other[..count * 32] {
         return true;
     }
     all_listed(other, more, list, count, words, pos, found)

@@ -1,12 +1,14 @@
 -- The listed ids that no own item has, counted, and whether there is room for what a reply adds.
-use Prim.Native.Nat.{ℕ, suc, ◌+◌, ◌-◌, ◌*◌, ◌≤◌, ◌<◌}
+use Prim.Native.Nat.{ℕ, zero, suc, ◌+◌, ◌-◌, ◌*◌, ◌≤◌}
 use mathlib.Core.Path.{◌≡◌, refl, ap, ◌∙◌}
-use mathlib.Core.Bool.{false}
-use mathlib.Core.List.{List, [], ◌∷◌, ◌++◌, foldr}
+use mathlib.Core.Bool.{false, cond}
+use mathlib.Core.List.{List, [], ◌∷◌, foldr}
 use native.Mathlib.Omega.{arith}
-use lib.Dec.{ltb}
-use lib.ListN.{length, take, drop, get_or, length-append}
-use borrow.Author.Tests.{ne_eqb, ltb-true, ltb-false, lt-ltb, le-ltb}
+use Rattle.std.specs.Prelude.{count_by}
+use Rattle.std.proofs.lemmas.List.Sums.{sum_by-cons}
+use lib.Dec.{eqb, ltb}
+use lib.ListN.{length, take, drop, length-append}
+use borrow.Author.Tests.{le-ltb}
 use Rattle.message.specs.Code.{ids_in}
 use Rattle.message.specs.declared.Payload.{Payload}
 use Rattle.message.proofs.Exact.{by_test}
@@ -20,37 +22,21 @@ use Rattle.walk.specs.declared.Walk.{Walk}
 use Rattle.walk.specs.declared.Step.{Step}
 use Rattle.walk.specs.Adding.{added_from, others}
 use Rattle.walk.proofs.Adding.{lacks, list_from, needed_is}
-use Rattle.needed.specs.Batches.{unless, not_found}
+use Rattle.needed.specs.Batches.{not_found}
 use Rattle.needed.proofs.Inserting.{added_grows}
-use Rattle.needed.proofs.Batching.{not_found_from, not_found_all, not-found-none, not-found-next, unowned_in, LookedUp, others-next, others_all, others-none, ids-add-next}
+use Rattle.needed.proofs.Batching.{unowned_in, LookedUp, others-next, others-none, ids-add-next}
 
 -- ---- the ids of a block
 
--- of the first n ids of any list, `count` were not found, and those from the i-th on are still to be counted
-abbrev pub Counting : List ℕ → ℕ → ℕ → ℕ → Type 0
-Counting found n count i = (l : List ℕ) → length (not_found found n l) ≡ count + length (not_found_from found n l 0 i)
-
-module _ (found : List ℕ) (n : ℕ) where
-  pub counting_starts : Counting found n 0 0
-  counting_starts l = let e : length (not_found found n l) ≡ length (not_found_from found n l 0 0) = ap length (not_found_all found n l 0) in omega (arith, e)
-
-  pub counting_one : (count i : ℕ) → i < n → get_or found i 0 ≡ 0 → Counting found n count i → Counting found n (count + 1) (i + 1)
-  counting_one count i h e s l =
-      let d = take 32 (drop (0 + i * 32) l) in
-      let u : unless (get_or found i 0) d ≡ d ∷ [] = rw e refl in
-      let next : not_found_from found n l 0 i ≡ unless (get_or found i 0) d ++ not_found_from found n l 0 (i + 1) = not-found-next found n l 0 i h in
-      let a : length (not_found_from found n l 0 i) ≡ suc (length (not_found_from found n l 0 (i + 1))) = ap length (next ∙ ap (λ k. k ++ not_found_from found n l 0 (i + 1)) u) in
-      omega (arith, s l, a)
-
-  pub counting_none : (count i : ℕ) → i < n → (get_or found i 0 ≡ 0 → ⊥) → Counting found n count i → Counting found n count (i + 1)
-  counting_none count i h e s l =
-      let d = take 32 (drop (0 + i * 32) l) in
-      let u : unless (get_or found i 0) d ≡ [] = rw (ne_eqb (get_or found i 0) 0 e) refl in
-      let next : not_found_from found n l 0 i ≡ unless (get_or found i 0) d ++ not_found_from found n l 0 (i + 1) = not-found-next found n l 0 i h in
-      s l ∙ ap (λ k. count + length k) (next ∙ ap (λ k. k ++ not_found_from found n l 0 (i + 1)) u)
-
-  pub counting_ends : (count i : ℕ) → n ≤ i → Counting found n count i → (l : List ℕ) → count ≡ length (not_found found n l)
-  counting_ends count i h s l = omega (arith, s l, ap length (not-found-none found n l 0 i h))
+pub not_found_count : (n : ℕ) (found l : List ℕ) → n ≤ length found → count_by (λ x. eqb x 0) (take n found) ≡ length (not_found found n l)
+unfolding not_found
+not_found_count zero found l h = refl
+not_found_count (suc n) [] l h = absurd (omega arith)
+not_found_count (suc n) (x ∷ found) l h =
+    let later = not_found_count n found (drop 32 l) (omega arith) in
+    let f : ℕ → ℕ = λ y. cond (eqb y 0) 1 0 in
+    let one : count_by (λ y. eqb y 0) (x ∷ take n found) ≡ f x + length (not_found found n (drop 32 l)) = sum_by-cons f x (take n found) ∙ ap (λ (k : ℕ). f x + k) later in
+    one ∙ by_test (eqb x 0) (λ e. rw e (omega arith)) (λ e. rw e (omega arith))
 
 -- ---- the ids of a list, block by block
 
@@ -58,11 +44,6 @@ module _ (own : List ℕ) (start owned : ℕ) (m : List ℕ) (count at : ℕ) wh
   -- `sum` ids are unowned, and those from the i-th on are still to be counted
   abbrev pub Summing : ℕ → ℕ → Type 0
   Summing sum i = length (unowned_in own start owned (ids_in count (drop at m))) ≡ sum + length (unowned_in own start owned (list_from m count at i))
-
-  pub summing_starts : Summing 0 0
-  summing_starts =
-      let e : length (unowned_in own start owned (ids_in count (drop at m))) ≡ length (unowned_in own start owned (list_from m count at 0)) = ap length (others_all own start owned m count at) in
-      omega (arith, e)
 
   pub summing_block : (found : List ℕ) (sum i n more : ℕ) → i + n ≤ count → LookedUp own start owned m (at + i * 32) n found
       → ((l : List ℕ) → more ≡ length (not_found found n l)) → Summing sum i → Summing (sum + more) (i + n)
@@ -104,10 +85,3 @@ pub room-enough : (T : Table) (m : List ℕ) (ds : List (List ℕ)) (size have :
     → ltb have (length (needed_after (items T) (ranges_at m starts.cursor) ds)) ≡ false
 room-enough T m ds size have e h f =
     rw (needed_is T m ds) (le-ltb have (length (foldr insert ds (added_from T m starts))) (omega (arith, e, h, f, (added_grows ds (added_from T m starts)).1)))
-
--- the ids that are new, counted
-pub room-counted : (have size more n : ℕ) → size ≤ have → n ≡ more + size → ltb (have - size) more ≡ ltb have n
-room-counted have size more n h e =
-    by_test (ltb (have - size) more)
-    (λ t. rw (t, lt-ltb have n (let l = ltb-true (have - size) more t in omega arith)) refl)
-    (λ t. rw (t, le-ltb have n (let l = ltb-false (have - size) more t in omega arith)) refl)

@@ -151,9 +151,6 @@ module _ (m words pos : List ℕ) (n p v : ℕ) (wide : length words ≡ 11008) 
 
   -- behind the others
   module _ (room : n < 11008) where
-    pub last-points : Pointing m (set pos n p) (n + 1)
-    last-points = put-points n (n + 1) (omega arith) (omega arith) (λ k l e. omega (arith, e))
-
     pub last-worded : Worded m (set words n v) (set pos n p) (n + 1)
     last-worded = put-worded n (n + 1) (omega arith) (omega arith) (λ k l e. omega (arith, e))
 

@@ -232,6 +232,7 @@ fn gather_list(
 {
     let mut n = n;
     let mut i = 0;
+    // No `for`: how many ids are passed at once, `pick` says.
     while i < count {
         let p = pick(m, at, i, count, interval, words, pos, n, ids, picks);
         n = offer_others(

@@ -1,5 +1,4 @@
 use Prim.Native.Nat.{◌+◌, ◌-◌, ◌≤◌}
-use mathlib.Core.Path.{◌≡◌}
 use lib.ListN.{length}
 use Rattle.table.specs.Code.{lent}
 use Rattle.walk.specs.Walking.{starts, Walking}
@@ -7,9 +6,11 @@ use Rattle.walk.specs.Adding.{added_from}
 use Rattle.room.proofs.few_unowned_with.Given as goal
 
 abbrev pub invariant-loop-walk : goal.invariant-loop-walk
-invariant-loop-walk l =
-    Walking (lent l.times l.own) l.m l.walk × (l.left ≤ l.room) × (length (added_from (lent l.times l.own) l.m starts) + l.left ≤ l.room + length (added_from (lent l.times l.own) l.m l.walk))
-    × (length l.keys ≡ length l.initial.keys) × (length l.places ≡ length l.initial.places) × (length l.found ≡ length l.initial.found)
+invariant-loop-walk l = record {
+  walking : Walking (lent l.times l.own) l.m l.walk;
+  fits : l.left ≤ l.room;
+  few : length (added_from (lent l.times l.own) l.m starts) + l.left ≤ l.room + length (added_from (lent l.times l.own) l.m l.walk);
+}
 
 abbrev pub decreases-loop-walk : goal.decreases-loop-walk
 decreases-loop-walk l = length l.m - l.walk.cursor.at

@@ -1,41 +1,29 @@
 -- `room::too_many` meets its contract.
 use Prim.Native.Nat.{◌/◌, ◌-◌, ◌*◌, ◌≤◌}
-use mathlib.Core.Path.{◌≡◌, sym}
-use mathlib.Core.Bool.{false}
+use mathlib.Core.Path.{◌≡◌, refl, sym, ◌∙◌}
+use mathlib.Core.Bool.{Bool, true, false, not}
 use native.Mathlib.Omega.{arith}
-use lib.Dec.{ltb}
 use lib.ListN.{length}
 use Rattle.message.specs.Code.{ids_in}
 use Rattle.message.proofs.Forms.{ids-count}
-use Rattle.reader.specs.Private.{ranges_at}
 use Rattle.table.specs.Code.{lent}
-use Rattle.table.specs.Table.{items}
-use Rattle.ends.specs.Opener.{needed_after}
 use Rattle.walk.specs.Walking.{starts}
 use Rattle.walk.specs.Adding.{added_from}
-use Rattle.room.proofs.Unowned.{room-enough, room-counted}
+use Rattle.room.proofs.Unowned.{room-enough}
 use Rattle.room.proofs.too_many.Goals as goal
+use Rattle.room.proofs.too_many.Goals.{then-not-few_listed, else-not-few_listed}
 
-pub returns-then-few_listed : goal.returns-then-few_listed
-returns-then-few_listed c =
-    let enough : let a = c.args in
-    let T = lent a.times.now a.own.now in
-    length (added_from T a.m.now starts) ≤ length a.needed.now / 32 - a.size → ltb (length a.needed.now / 32) (length (needed_after (items T) (ranges_at a.m.now starts.cursor) (ids_in a.size a.needed.now))) ≡ false = λ f. let a = c.args in
-    let h : a.size * 32 ≤ length a.needed.now = c.requires.2 in
-    room-enough (lent a.times.now a.own.now) a.m.now (ids_in a.size a.needed.now) a.size (length a.needed.now / 32) (ids-count a.size a.needed.now) (omega arith) f in
-    sym (enough (c.few_listed.ensures c.if-few_listed.true))
+was : (b : Bool) → not b ≡ false → b ≡ true
+was true e = refl
+was false e = sym e
 
-pub returns-then-few_unowned : goal.returns-then-few_unowned
-returns-then-few_unowned c =
-    let enough : let a = c.args in
-    let T = lent a.times.now a.own.now in
-    length (added_from T a.m.now starts) ≤ length a.needed.now / 32 - a.size → ltb (length a.needed.now / 32) (length (needed_after (items T) (ranges_at a.m.now starts.cursor) (ids_in a.size a.needed.now))) ≡ false = λ f. let a = c.args in
-    let h : a.size * 32 ≤ length a.needed.now = c.requires.2 in
-    room-enough (lent a.times.now a.own.now) a.m.now (ids_in a.size a.needed.now) a.size (length a.needed.now / 32) (ids-count a.size a.needed.now) (omega arith) f in
-    sym (enough (c.few_unowned.ensures c.if-few_unowned.true))
-
-pub returns : goal.returns
-returns c =
+pub returns-else-not-few_unowned : goal.returns-else-not-few_unowned
+returns-else-not-few_unowned c =
     let a = c.args in
+    let have = length a.needed.now / 32 in
     let h : a.size * 32 ≤ length a.needed.now = c.requires.2 in
-    room-counted (length a.needed.now / 32) a.size c.count_new-more.result _ (omega arith) c.count_new-more.ensures.0
+    let few : length (added_from (lent a.times.now a.own.now) a.m.now starts) ≤ have - a.size = elim c.if-not-few_listed.branch [
+      | then-not-few_listed w ↦ w.few_unowned.ensures (was w.few_unowned.result (sym w.value-is ∙ c.if-not-few_unowned.false))
+      | else-not-few_listed w ↦ c.few_listed.ensures w.if-not-few_listed.false
+    ] in
+    c.if-not-few_unowned.false ∙ sym (room-enough (lent a.times.now a.own.now) a.m.now (ids_in a.size a.needed.now) a.size have (ids-count a.size a.needed.now) (omega arith) few)

@@ -6,23 +6,26 @@ use lib.ListN.{length, length-drop}
 use borrow.Author.Rules.{rules}
 use Rattle.reader.proofs.Listing.{part-from}
 use Rattle.table.specs.Code.{lent}
-use Rattle.table.specs.Table.{Table}
 use Rattle.table.proofs.Items.{right_size}
 use Rattle.judge.specs.Judge.{of_table}
 use Rattle.judging.proofs.Listing.{list_of_table, print_of_table}
 use Rattle.judging.proofs.lists.of_table.Goals as goal
 
-pub equals_own-requires : goal.equals_own-requires
-equals_own-requires c = (c.requires.0, c.requires.1, rw c.in-Fingerprint.is at c.requires.2)
+pub overflow_mul-first : goal.overflow_mul-first
+overflow_mul-first c = omega (arith, right_size (lent c.args.times.now c.args.own.now) c.requires.0.0)
+
+pub slice_bounds-same_ids-count-in-Ids : goal.slice_bounds-same_ids-count-in-Ids
+slice_bounds-same_ids-count-in-Ids c = omega (arith, right_size (lent c.args.times.now c.args.own.now) c.requires.0.0)
+
+pub slice_bounds-same_ids-start-in-Ids : goal.slice_bounds-same_ids-start-in-Ids
+slice_bounds-same_ids-start-in-Ids c =
+    let r = right_size (lent c.args.times.now c.args.own.now) c.requires.0.0 in
+    search rules
 
 pub same_ids-requires : goal.same_ids-requires
 same_ids-requires c =
-    let table : Table = lent c.args.times.now c.args.own.now in
-    let sized : (length c.args.own.now ≡ 32 * length c.args.times.now) × (length c.args.times.now ≤ 1048576) = right_size (table) c.requires.0.0 in
+    let r = right_size (lent c.args.times.now c.args.own.now) c.requires.0.0 in
     let inside : c.in-Ids.at + c.in-Ids.count * 32 ≤ length c.args.m.now = rw c.in-Ids.is at c.requires.2 in
-    let r = sized in
-    let i = inside in
-    let h = c.requires.1 in
     let m = c.args.m.now in
     let at = c.in-Ids.at in
     let lo = c.args.span.lo * 32 in
@@ -37,47 +40,5 @@ returns-in-Fingerprint c = rw c.in-Fingerprint.is (c.equals_own.ensures ∙ prin
 
 pub returns-in-Ids : goal.returns-in-Ids
 returns-in-Ids c =
-    let table : Table = lent c.args.times.now c.args.own.now in
     let a = c.args in
-    rw c.in-Ids.is (c.same_ids.ensures ∙ list_of_table (table) c.requires.0 a.span.lo a.span.hi c.in-Ids.count c.in-Ids.at a.m.now c.requires.1.1)
-
-pub overflow_mul-first : goal.overflow_mul-first
-overflow_mul-first c =
-    let table : Table = lent c.args.times.now c.args.own.now in
-    let sized : (length c.args.own.now ≡ 32 * length c.args.times.now) × (length c.args.times.now ≤ 1048576) = right_size (table) c.requires.0.0 in
-    let r = sized in
-    let i = c.requires.1 in
-    omega arith
-
-pub overflow_sub-owned : goal.overflow_sub-owned
-overflow_sub-owned c =
-    let i = c.requires.1 in
-    omega arith
-
-pub slice_bounds-same_ids-count : goal.slice_bounds-same_ids-count
-slice_bounds-same_ids-count c =
-    let inside : c.in-Ids.at + c.in-Ids.count * 32 ≤ length c.args.m.now = rw c.in-Ids.is at c.requires.2 in
-    let i = inside in
-    omega arith
-
-pub slice_bounds-same_ids-start : goal.slice_bounds-same_ids-start
-slice_bounds-same_ids-start c =
-    let inside : c.in-Ids.at + c.in-Ids.count * 32 ≤ length c.args.m.now = rw c.in-Ids.is at c.requires.2 in
-    let i = inside in
-    search rules
-
-pub slice_bounds-same_ids-count-in-Ids : goal.slice_bounds-same_ids-count-in-Ids
-slice_bounds-same_ids-count-in-Ids c =
-    let table : Table = lent c.args.times.now c.args.own.now in
-    let sized : (length c.args.own.now ≡ 32 * length c.args.times.now) × (length c.args.times.now ≤ 1048576) = right_size (table) c.requires.0.0 in
-    let r = sized in
-    let i = c.requires.1 in
-    omega arith
-
-pub slice_bounds-same_ids-start-in-Ids : goal.slice_bounds-same_ids-start-in-Ids
-slice_bounds-same_ids-start-in-Ids c =
-    let table : Table = lent c.args.times.now c.args.own.now in
-    let sized : (length c.args.own.now ≡ 32 * length c.args.times.now) × (length c.args.times.now ≤ 1048576) = right_size (table) c.requires.0.0 in
-    let r = sized in
-    let i = c.requires.1 in
-    search rules
+    rw c.in-Ids.is (c.same_ids.ensures ∙ list_of_table (lent a.times.now a.own.now) c.requires.0 a.span.lo a.span.hi c.in-Ids.count c.in-Ids.at a.m.now c.requires.1.1)

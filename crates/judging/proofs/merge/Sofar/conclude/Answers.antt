@@ -1,14 +1,10 @@
 -- `judging::merge::Sofar::conclude` meets its contract.
-use Rattle.judging.proofs.Noting.{concluded}
-use borrow.Author.Rules.{rules}
+use mathlib.Core.Path.{◌∙◌}
+use Rattle.judging.proofs.Noting.{concluded, not_concluded}
 use Rattle.judging.proofs.merge.Sofar.conclude.Goals as goal
 
-pub enough-enough-requires : goal.enough-enough-requires
-enough-enough-requires c = search rules
+pub returns-then-self : goal.returns-then-self
+returns-then-self c = concluded c.args.asked c.args.self c.if-self.true c.enough.result c.enough.ensures
 
-pub both-requires : goal.both-requires
-both-requires c = search rules
-
-pub returns : goal.returns
-returns c =
-    concluded c.args.asked c.args.self c.both.result c.enough-enough.result c.enough-enough.ensures c.both.ensures
+pub returns-else-self : goal.returns-else-self
+returns-else-self c = c.if-self.false ∙ not_concluded c.args.asked c.args.self c.if-self.false

@@ -8,6 +8,7 @@ ghost use Rattle.capi.specs.Sessions.{unlabelled_by};
 
 use crate::{SessionAnswer, tell_session};
 use session::convert::{Unlabelled, convert_session};
+use session::opener::Session;
 
 // A session as it was before sessions had a label.
 #[repr(C)]
@@ -34,5 +35,8 @@ pub extern "C" fn recon_session_convert(
         needed: session.needed,
         done: session.done,
     };
-    tell_session(convert_session(times, ids, kept, marks, needed))
+    match convert_session(times, ids, kept, marks, needed) {
+        Ok(session) => tell_session(Ok(0), session),
+        Err(refusal) => tell_session(Err(refusal), Session::NONE),
+    }
 }

@@ -7,7 +7,8 @@ ghost use Rattle.capi.specs.Calls.{label_by};
 ghost use Rattle.capi.specs.Folds.{fold_lent, told_inquiry, told_by, told_commit};
 
 use crate::Session;
-use folding::{Inquiry, Outcome, commit, inquire};
+use folding::{Inquiry, Merged, commit, inquire};
+use table::Refusal;
 
 // The number of the refusal, 0 for none; how many items would enter, and how many ids would stay needed.
 #[repr(C)]
@@ -28,16 +29,16 @@ pub struct CommitAnswer {
 }
 
 // What an inquiry found, in numbers.
-fn tell_inquiry(inquiry: Inquiry) -> InquiryAnswer
+fn tell_inquiry(inquiry: Result<Inquiry, Refusal>) -> InquiryAnswer
     ensures { result ≡ told_inquiry (inquiry_of inquiry) }
 {
     match inquiry {
-        Inquiry::Counted { entering, staying } => InquiryAnswer {
+        Ok(Inquiry { entering, staying }) => InquiryAnswer {
             refusal: 0,
             entering,
             staying,
         },
-        Inquiry::Refused { refusal } => InquiryAnswer {
+        Err(refusal) => InquiryAnswer {
             refusal: refusal.number(),
             entering: 0,
             staying: 0,
@@ -46,22 +47,16 @@ fn tell_inquiry(inquiry: Inquiry) -> InquiryAnswer
 }
 
 // The outcome of a commit to a table of `items` items, in numbers, and the session afterwards.
-fn tell_commit(items: usize, session: Session, outcome: Outcome) -> CommitAnswer
+fn tell_commit(items: usize, session: Session, outcome: Result<Merged, Refusal>) -> CommitAnswer
     ensures { (times ids list : List ℕ) → told_by result ≡ told_commit items (record { answer = outcome_of outcome; lent = lent_to times ids list session.marked (label_by session.label) (needed_by session.needed outcome) session.done }) }
 {
-    let label = session.label;
     match outcome {
-        Outcome::Merged { count, needed } => CommitAnswer {
+        Ok(Merged { count, needed }) => CommitAnswer {
             refusal: 0,
             items: count,
-            session: Session {
-                marked: session.marked,
-                needed,
-                done: session.done,
-                label,
-            },
+            session: Session { needed, ..session },
         },
-        Outcome::Refused { refusal } => CommitAnswer {
+        Err(refusal) => CommitAnswer {
             refusal: refusal.number(),
             items,
             session,

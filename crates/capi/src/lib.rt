@@ -1,25 +1,22 @@
 // The calls for C and Rust, declared for C in include/recon.h: those of `session` on numbers and slices, with the same equations as their contracts.
 #![tactic(auto)]
 
-ghost use Rattle.std.specs.Prelude.{◌≡◌, length};
+ghost use Rattle.std.specs.Prelude.{List, ℕ, ◌≡◌, length};
 ghost use Rattle.sha256.specs.Fips180.{digest};
 ghost use Rattle.table.specs.Answer.{bytes_in};
-ghost use Rattle.table.specs.Code.{lent};
+ghost use Rattle.table.specs.Code.{answer_of, lent};
 ghost use Rattle.ends.specs.Opener.{opened, taken};
 ghost use Rattle.ends.specs.Responder.{answered};
-ghost use Rattle.sending.specs.Code.{outcome_of};
-ghost use Rattle.session.specs.Code.{session_in, lent_first};
+ghost use Rattle.session.specs.Code.{session_in, lent_first, opened_in};
 ghost use Rattle.session.specs.Fingerprint.{fingerprint_between};
 ghost use Rattle.capi.specs.Calls.{cut_by, session_by, lent_to, told, told_by, told_with, session_of, bound_by, number_in};
 
 use cutting::Cut;
 use message::Bound;
-use sending::Outcome;
 use session::fingerprint::fingerprint;
-use session::opener::{SessionOutcome, open_session, take_reply};
+use session::opener::{Opened, open_session, take_reply};
 use session::responder::answer_query;
-use shorten::Limit;
-use table::Checked;
+use table::Refusal;
 
 pub mod convert;
 pub mod folds;
@@ -62,13 +59,13 @@ pub struct SessionAnswer {
     pub session: Session,
 }
 
-// An outcome in numbers.
-pub(crate) fn tell(outcome: Outcome) -> Answer
-    ensures { result ≡ told (outcome_of outcome) }
+// What a call answered, in numbers.
+pub(crate) fn tell(answer: Result<usize, Refusal>) -> Answer
+    ensures { result ≡ told (answer_of answer) }
 {
-    match outcome {
-        Outcome::Written { length } => Answer { refusal: 0, length },
-        Outcome::Refused { refusal } => Answer {
+    match answer {
+        Ok(length) => Answer { refusal: 0, length },
+        Err(refusal) => Answer {
             refusal: refusal.number(),
             length: 0,
         },
@@ -76,40 +73,53 @@ pub(crate) fn tell(outcome: Outcome) -> Answer
 }
 
 // The same, and the session afterwards.
-pub(crate) fn tell_session(left: SessionOutcome) -> SessionAnswer
-    ensures { told_by result ≡ told_with (record { answer = outcome_of left.outcome; lent = session_in left.session }) }
+pub(crate) fn tell_session(
+    answer: Result<usize, Refusal>,
+    session: session::opener::Session,
+) -> SessionAnswer
+    ensures { told_by result ≡ told_with (record { answer = answer_of answer; lent = session_in session }) }
 {
-    let outcome = left.outcome;
-    let answer = tell(outcome);
-    let sum = left.session.label.sum;
+    let Answer { refusal, length } = tell(answer);
+    let sum = session.label.sum;
     SessionAnswer {
-        refusal: answer.refusal,
-        length: answer.length,
+        refusal,
+        length,
         session: Session {
-            marked: left.session.marked,
-            needed: left.session.needed,
-            done: left.session.done,
+            marked: session.marked,
+            needed: session.needed,
+            done: session.done,
             label: Label {
                 sum,
-                count: left.session.label.count,
+                count: session.label.count,
             },
         },
     }
 }
 
-// The session that was handed over.
-pub(crate) fn handed(session: Session) -> session::opener::Session
-    ensures { session_in result ≡ session_by session }
+// The same of an opening; beside a refusal there is no session.
+pub(crate) fn tell_opened(opened: Result<Opened, Refusal>) -> SessionAnswer
+    ensures { (marks needed out : List ℕ) → told_by result ≡ told_with (session_of (opened_in opened marks needed out)) }
 {
-    let sum = session.label.sum;
-    session::opener::Session {
-        marked: session.marked,
-        needed: session.needed,
-        done: session.done,
-        label: label::Label {
-            sum,
-            count: session.label.count,
-        },
+    match opened {
+        Ok(Opened { length, session }) => tell_session(Ok(length), session),
+        Err(refusal) => tell_session(Err(refusal), session::opener::Session::NONE),
+    }
+}
+
+impl From<Session> for session::opener::Session {
+    ghost from_gives = { λ s r. session_in r ≡ session_by s };
+
+    fn from(session: Session) -> session::opener::Session {
+        let sum = session.label.sum;
+        session::opener::Session {
+            marked: session.marked,
+            needed: session.needed,
+            done: session.done,
+            label: label::Label {
+                sum,
+                count: session.label.count,
+            },
+        }
     }
 }
 
@@ -117,15 +127,13 @@ pub(crate) fn handed(session: Session) -> session::opener::Session
 fn bound(infinite: bool, time: u64, len: usize) -> Bound
     ensures { result ≡ bound_by infinite time len }
 {
-    if !infinite {
-        return Bound::At { time, len };
-    }
-    if len == 0 {
-        return Bound::Infinity;
-    }
-    Bound::At {
-        time: 18446744073709551615,
-        len,
+    match (infinite, len) {
+        (false, _) => Bound::At { time, len },
+        (true, 0) => Bound::Infinity,
+        (true, _) => Bound::At {
+            time: u64::MAX,
+            len,
+        },
     }
 }
 
@@ -145,7 +153,7 @@ pub extern "C" fn recon_open(
     ensures out_after { out.new ≡ (opened (lent times.now ids.now) (cut_by parts limit) (lent_first marks.old needed.now out.old)).lent.out }
 {
     let cut = Cut { parts, limit };
-    tell_session(open_session(times, ids, cut, Limit::Unlimited, marks, needed, out))
+    tell_opened(open_session(times, ids, cut, None, marks, needed, out))
 }
 
 // Answers a query.
@@ -162,7 +170,7 @@ pub extern "C" fn recon_answer(
     ensures out_after { out.new ≡ (answered (lent times.now ids.now) (cut_by parts limit) query.now out.old).lent }
 {
     let cut = Cut { parts, limit };
-    tell(answer_query(times, ids, cut, Limit::Unlimited, query, out))
+    tell(answer_query(times, ids, cut, None, query, out))
 }
 
 // Takes a reply.
@@ -183,10 +191,20 @@ pub extern "C" fn recon_take(
     ensures needed_after { needed.new ≡ (taken (lent times.now ids.now) (cut_by parts limit) reply.now (lent_to session marks.old needed.old out.old)).lent.needed }
     ensures out_after { out.new ≡ (taken (lent times.now ids.now) (cut_by parts limit) reply.now (lent_to session marks.old needed.old out.old)).lent.out }
 {
-    let before = handed(session);
+    let mut session = session::opener::Session::from(session);
     let cut = Cut { parts, limit };
-    let no = Limit::Unlimited;
-    tell_session(take_reply(times, ids, cut, no, reply, before, marks, needed, out))
+    let answer = take_reply(
+        times,
+        ids,
+        cut,
+        None,
+        reply,
+        &mut session,
+        marks,
+        needed,
+        out,
+    );
+    tell_session(answer, session)
 }
 
 // The fingerprint of the items from a lower bound up to an upper one: 0 and the 16 bytes, or the number of the refusal and no byte changed.
@@ -207,15 +225,12 @@ pub extern "C" fn recon_fingerprint(
 {
     let lower = bound(lower_infinite, lower_time, lower_prefix.len());
     let upper = bound(upper_infinite, upper_time, upper_prefix.len());
-    let answer = fingerprint(times, ids, lower, lower_prefix, upper, upper_prefix);
-    let checked = answer.checked;
-    let bytes = answer.bytes;
-    match checked {
-        Checked::Refused { refusal } => refusal.number(),
-        Checked::Passed => {
+    match fingerprint(times, ids, lower, lower_prefix, upper, upper_prefix) {
+        Ok(bytes) => {
             *out = bytes;
             0
         }
+        Err(refusal) => refusal.number(),
     }
 }
 

@@ -1,11 +1,11 @@
 // The judge of replies, for C and Rust.
 ghost use Rattle.std.specs.Prelude.{◌≡◌};
-ghost use Rattle.table.specs.Code.{lent};
+ghost use Rattle.table.specs.Code.{answer_of, lent};
 ghost use Rattle.judge.specs.Judge.{judged};
-ghost use Rattle.judging.specs.Code.{verdict_of};
 ghost use Rattle.capi.specs.Judgements.{told_judgement};
 
-use judging::{Verdict, judge_reply};
+use judging::judge_reply;
+use table::Refusal;
 
 // The number of the refusal, 0 for none, and whether the reply is approved.
 #[repr(C)]
@@ -16,19 +16,15 @@ pub struct Judgement {
 }
 
 // A verdict, in numbers.
-fn tell_judgement(verdict: Verdict) -> Judgement
-    ensures { result ≡ told_judgement (verdict_of verdict) }
+fn tell_judgement(verdict: Result<bool, Refusal>) -> Judgement
+    ensures { result ≡ told_judgement (answer_of verdict) }
 {
     match verdict {
-        Verdict::Yes => Judgement {
+        Ok(approved) => Judgement {
             refusal: 0,
-            approved: true,
+            approved,
         },
-        Verdict::No => Judgement {
-            refusal: 0,
-            approved: false,
-        },
-        Verdict::Refused { refusal } => Judgement {
+        Err(refusal) => Judgement {
             refusal: refusal.number(),
             approved: false,
         },

@@ -1,7 +1,7 @@
 // The calls on trees of labels: those of `labeltree`.
 ghost use Rattle.std.specs.Prelude.{◌≡◌};
 ghost use Rattle.table.specs.Answer.{bytes_in};
-ghost use Rattle.table.specs.Code.{checked_of, lent};
+ghost use Rattle.table.specs.Code.{answer_of, lent};
 ghost use Rattle.tree.specs.Tree as spec;
 ghost use Rattle.tree.specs.Tree.{item};
 ghost use Rattle.capi.specs.Calls.{number_in};
@@ -11,7 +11,7 @@ use crate::Label;
 use labeltree::append::append;
 use labeltree::build::build;
 use labeltree::run::label_of_run;
-use table::Checked;
+use table::Refusal;
 
 // The number of the refusal, 0 for none, the label of the run, and how many labels were visited.
 #[repr(C)]
@@ -23,12 +23,12 @@ pub struct TreeAnswer {
 }
 
 // The number of the refusal, 0 for none.
-fn number(checked: Checked) -> u64
-    ensures { result ≡ number_in (checked_of checked) }
+fn number(answer: Result<(), Refusal>) -> u64
+    ensures { result ≡ number_in (answer_of answer) }
 {
-    match checked {
-        Checked::Passed => 0,
-        Checked::Refused { refusal } => refusal.number(),
+    match answer {
+        Ok(()) => 0,
+        Err(refusal) => refusal.number(),
     }
 }
 
@@ -62,16 +62,25 @@ pub extern "C" fn recon_tree_label(tree: &[u8], from: usize, to: usize) -> TreeA
     ensures refusal_value { result.refusal ≡ number_in (spec.label_of_run tree.now from to) }
     ensures result_value { found_in result ≡ spec.or_nothing (spec.label_of_run tree.now from to) }
 {
-    let run = label_of_run(tree, from, to);
-    let checked = run.checked;
-    let found = run.found;
-    let sum = found.label.sum;
-    TreeAnswer {
-        refusal: number(checked),
-        label: Label {
-            sum,
-            count: found.label.count,
+    match label_of_run(tree, from, to) {
+        Ok(found) => {
+            let sum = found.label.sum;
+            TreeAnswer {
+                refusal: 0,
+                label: Label {
+                    sum,
+                    count: found.label.count,
+                },
+                visited: found.visited,
+            }
+        }
+        Err(refusal) => TreeAnswer {
+            refusal: refusal.number(),
+            label: Label {
+                sum: [0; 4],
+                count: 0,
+            },
+            visited: 0,
         },
-        visited: found.visited,
     }
 }

@@ -7,11 +7,10 @@ ghost use Rattle.ends.specs.Responder.{answered_within};
 ghost use Rattle.session.specs.Code.{lent_first};
 ghost use Rattle.capi.specs.Calls.{cut_by, lent_to, told, told_by, told_with, session_of};
 
-use crate::{Answer, Session, SessionAnswer, handed, tell, tell_session};
+use crate::{Answer, Session, SessionAnswer, tell, tell_opened, tell_session};
 use cutting::Cut;
 use session::opener::{open_session, take_reply};
 use session::responder::answer_query;
-use shorten::Limit;
 
 // Opens a session, its first query within `bytes` bytes.
 #[unsafe(no_mangle)]
@@ -30,8 +29,7 @@ pub extern "C" fn recon_open_within(
     ensures out_after { out.new ≡ (opened_within (L.bytes bytes) (lent times.now ids.now) (cut_by parts limit) (lent_first marks.old needed.now out.old)).lent.out }
 {
     let cut = Cut { parts, limit };
-    let most = Limit::Bytes { most: bytes };
-    tell_session(open_session(times, ids, cut, most, marks, needed, out))
+    tell_opened(open_session(times, ids, cut, Some(bytes), marks, needed, out))
 }
 
 // Answers a query within `bytes` bytes.
@@ -49,8 +47,7 @@ pub extern "C" fn recon_answer_within(
     ensures out_after { out.new ≡ (answered_within (L.bytes bytes) (lent times.now ids.now) (cut_by parts limit) query.now out.old).lent }
 {
     let cut = Cut { parts, limit };
-    let most = Limit::Bytes { most: bytes };
-    tell(answer_query(times, ids, cut, most, query, out))
+    tell(answer_query(times, ids, cut, Some(bytes), query, out))
 }
 
 // Takes a reply; the next query is within `bytes` bytes.
@@ -72,8 +69,18 @@ pub extern "C" fn recon_take_within(
     ensures needed_after { needed.new ≡ (taken_within (L.bytes bytes) (lent times.now ids.now) (cut_by parts limit) reply.now (lent_to session marks.old needed.old out.old)).lent.needed }
     ensures out_after { out.new ≡ (taken_within (L.bytes bytes) (lent times.now ids.now) (cut_by parts limit) reply.now (lent_to session marks.old needed.old out.old)).lent.out }
 {
-    let before = handed(session);
+    let mut session = session::opener::Session::from(session);
     let cut = Cut { parts, limit };
-    let most = Limit::Bytes { most: bytes };
-    tell_session(take_reply(times, ids, cut, most, reply, before, marks, needed, out))
+    let answer = take_reply(
+        times,
+        ids,
+        cut,
+        Some(bytes),
+        reply,
+        &mut session,
+        marks,
+        needed,
+        out,
+    );
+    tell_session(answer, session)
 }

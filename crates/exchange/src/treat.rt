@@ -27,7 +27,7 @@ use cutting::{Cut, Span};
 use idlist::same_bytes;
 use label::Label;
 use message::{Payload, Range, Refusal};
-use walk::Walk;
+use walk::{Step, Walk};
 use writer::write::{Pass, Writer};
 
 // Whether the fingerprint at a place of the message is that of the span's own items.
@@ -35,9 +35,7 @@ pub fn equals_own(m: &[u8], at: usize, times: &[u64], own: &[u8], span: Span) ->
     requires { Passed (lent times.now own.now) × Inside (lent times.now own.now) span × (at + 16 ≤ length m.now) }
     ensures { result ≡ same (take 16 (drop at m.now)) (fingerprint_of (own_in (lent times.now own.now) span)) }
 {
-    let first = span.lo * 32;
-    let last = span.hi * 32;
-    let print = Label::of_ids(&own[first..last]).fingerprint();
+    let print = Label::of_ids(&own[span.lo * 32..span.hi * 32]).fingerprint();
     same_bytes(&m[at..at + 16], &print)
 }
 
@@ -102,11 +100,15 @@ pub fn put_reply(
 {
     let mut walk = Walk::start();
     while walk.cursor.at < m.len() {
-        let step = walk.step(m, times, own);
+        let Step {
+            span,
+            payload,
+            next,
+        } = walk.step(m, times, own);
         put_treated(
-            writer, out, pass, listing, times, own, cut, m, step.span, step.payload,
+            writer, out, pass, listing, times, own, cut, m, span, payload,
         )?;
-        walk = step.next;
+        walk = next;
     }
     Ok(())
 }

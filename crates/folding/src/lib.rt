@@ -3,7 +3,7 @@
 // over, and stay what they are.
 #![tactic(auto)]
 
-ghost use Rattle.std.specs.Prelude.{ℕ, ◌+◌, ◌*◌, ◌≤◌, ◌<◌, ◌≡◌, true, false, map, length};
+ghost use Rattle.std.specs.Prelude.{IfOk, ℕ, ◌+◌, ◌*◌, ◌≤◌, ◌<◌, ◌≡◌, true, false, map, length};
 ghost use Rattle.message.specs.Bound.{big_endian};
 ghost use Rattle.message.specs.Code.{ids_in};
 ghost use Rattle.table.specs.Answer.{answer, refuse_if};
@@ -21,30 +21,22 @@ use crate::check::{check_list, check_tables, holds};
 use merging::common::some_common;
 use merging::merge::merge;
 use removal::{survey, take_out};
-use table::{Checked, Refusal};
+use table::Refusal;
 
 mod check;
 
-// What a commit would do.
+// What a commit would do: so many items would enter, and so many ids would stay needed.
 #[derive(Clone, Copy)]
-pub enum Inquiry {
-    // so many items would enter, and so many ids would stay needed
-    Counted { entering: usize, staying: usize },
-    Refused { refusal: Refusal },
+pub struct Inquiry {
+    pub entering: usize,
+    pub staying: usize,
 }
 
-// What a commit did.
+// What a commit did: the table has so many items now, and so many ids are needed.
 #[derive(Clone, Copy)]
-pub enum Outcome {
-    // the table has so many items now, and so many ids are needed
-    Merged { count: usize, needed: usize },
-    Refused { refusal: Refusal },
-}
-
-fn refuse(refusal: Refusal) -> Inquiry
-    ensures { result ≡ Inquiry.Refused refusal }
-{
-    Inquiry::Refused { refusal }
+pub struct Merged {
+    pub count: usize,
+    pub needed: usize,
 }
 
 // What an inquiry answers that checks 1, 2, 4 and 15 have passed: 16, 17, and what would enter and stay. The needed ids are marked.
@@ -58,7 +50,7 @@ fn inquire_checked(
     freshids: &[u8],
     ends: &mut [u32],
     marks: &mut [u8],
-) -> Inquiry
+) -> Result<Inquiry, Refusal>
     requires { (cannot_hold count (lent times.now ids.now) ≡ false) × Passed (front count (lent times.now ids.now)) × Passed (lent fresh.now freshids.now) × (size * 32 ≤ length needed.now) × (rising (map (big_endian 32) (ids_in size needed.now)) ≡ true) × (0 < length ends.old) × (0 < length marks.old) }
     ensures needed_value { refuse_if 16 (some (not_due (ids_in size needed.now) (items (front count (lent times.now ids.now)))) (items (lent fresh.now freshids.now))) (refuse_if 17 (cannot_hold (count + length fresh.now) (lent times.now ids.now)) (answer (length (items (lent fresh.now freshids.now)), length (still_needed (items (lent fresh.now freshids.now)) (ids_in size needed.now))))) ≡ inquiry_of result }
     ensures marked { Marked (ids_in (length fresh.now) freshids.now) needed.now size marks.new }
@@ -66,19 +58,18 @@ fn inquire_checked(
     let entering = fresh.len();
     let tally = survey(needed, size, freshids, entering, ends, marks);
     if tally.found != entering {
-        return refuse(Refusal::NotDue);
+        return Err(Refusal::NotDue);
     }
-    let bytes = count * 32;
-    if some_common(&times[..count], &ids[..bytes], fresh, freshids) {
-        return refuse(Refusal::NotDue);
+    if some_common(&times[..count], &ids[..count * 32], fresh, freshids) {
+        return Err(Refusal::NotDue);
     }
     if !holds(times.len(), ids.len(), count + entering) {
-        return refuse(Refusal::TableFull);
+        return Err(Refusal::TableFull);
     }
-    Inquiry::Counted {
+    Ok(Inquiry {
         entering,
         staying: tally.left,
-    }
+    })
 }
 
 // As `inquire`, with room for hints and marks. Where a commit would be done, the needed ids are marked.
@@ -93,24 +84,20 @@ fn inquire_with(
     freshids: &[u8],
     ends: &mut [u32],
     marks: &mut [u8],
-) -> Inquiry
+) -> Result<Inquiry, Refusal>
     requires { (0 < length ends.old) × (0 < length marks.old) }
-    ensures by_index { (marked : ℕ) (label : Label) → inquired count (lent_to times.now ids.now needed.now marked label size done) (lent fresh.now freshids.now) ≡ inquiry_of result }
-    ensures by_index_2 { (entering staying : ℕ) → result ≡ Inquiry.Counted entering staying → Marked (ids_in (length fresh.now) freshids.now) needed.now size marks.new }
+    ensures answer_value { (marked : ℕ) (label : Label) → inquired count (lent_to times.now ids.now needed.now marked label size done) (lent fresh.now freshids.now) ≡ inquiry_of result }
+    ensures marked { IfOk result (λ i. Marked (ids_in (length fresh.now) freshids.now) needed.now size marks.new) }
 {
-    match check_tables(times, ids, count, fresh, freshids) {
-        Checked::Refused { refusal } => refuse(refusal),
-        Checked::Passed => match check_list(needed, size, done) {
-            Checked::Refused { refusal } => refuse(refusal),
-            Checked::Passed => inquire_checked(
-                times, ids, count, needed, size, fresh, freshids, ends, marks,
-            ),
-        },
-    }
+    check_tables(times, ids, count, fresh, freshids)?;
+    check_list(needed, size, done)?;
+    inquire_checked(
+        times, ids, count, needed, size, fresh, freshids, ends, marks,
+    )
 }
 
-// As `inquire`, for at most 1,024 needed ids.
-fn inquire_few(
+// As `inquire`, with room for E hints and for the marks of 8 M needed ids at a time.
+fn inquire_sized<const E: usize, const M: usize>(
     times: &[u64],
     ids: &[u8],
     count: usize,
@@ -119,37 +106,19 @@ fn inquire_few(
     done: bool,
     fresh: &[u64],
     freshids: &[u8],
-) -> Inquiry
+) -> Result<Inquiry, Refusal>
+    requires { (0 < E) × (E ≤ 1048576) × (0 < M) × (M ≤ 1048576) }
     ensures { (marked : ℕ) (label : Label) → inquired count (lent_to times.now ids.now needed.now marked label size done) (lent fresh.now freshids.now) ≡ inquiry_of result }
 {
-    let mut ends = [0u32; 128];
-    let mut marks = [0u8; 128];
+    let mut ends = [0u32; E];
+    let mut marks = [0u8; M];
     inquire_with(
         times, ids, count, needed, size, done, fresh, freshids, &mut ends, &mut marks,
     )
 }
 
-// As `inquire`, for any number of needed ids. The marks of 1,048,576 have room.
-fn inquire_many(
-    times: &[u64],
-    ids: &[u8],
-    count: usize,
-    needed: &[u8],
-    size: usize,
-    done: bool,
-    fresh: &[u64],
-    freshids: &[u8],
-) -> Inquiry
-    ensures { (marked : ℕ) (label : Label) → inquired count (lent_to times.now ids.now needed.now marked label size done) (lent fresh.now freshids.now) ≡ inquiry_of result }
-{
-    let mut ends = [0u32; 16384];
-    let mut marks = [0u8; 131072];
-    inquire_with(
-        times, ids, count, needed, size, done, fresh, freshids, &mut ends, &mut marks,
-    )
-}
-
-// What a commit of the batch (`fresh`, `freshids`) into the table of `count` items would do, `size` ids being needed. It changes nothing.
+// What a commit of the batch (`fresh`, `freshids`) into the table of `count` items would do, `size` ids being needed. It changes nothing. A short list needs no large
+// arrays; in the large ones the marks of 1,048,576 ids have room.
 pub fn inquire(
     times: &[u64],
     ids: &[u8],
@@ -159,13 +128,14 @@ pub fn inquire(
     done: bool,
     fresh: &[u64],
     freshids: &[u8],
-) -> Inquiry
+) -> Result<Inquiry, Refusal>
     ensures { (marked : ℕ) (label : Label) → inquired count (lent_to times.now ids.now needed.now marked label size done) (lent fresh.now freshids.now) ≡ inquiry_of result }
 {
     if size <= 1024 {
-        return inquire_few(times, ids, count, needed, size, done, fresh, freshids);
+        inquire_sized::<128, 128>(times, ids, count, needed, size, done, fresh, freshids)
+    } else {
+        inquire_sized::<16384, 131072>(times, ids, count, needed, size, done, fresh, freshids)
     }
-    inquire_many(times, ids, count, needed, size, done, fresh, freshids)
 }
 
 // As `commit`, with room for hints and marks.
@@ -180,30 +150,23 @@ fn commit_with(
     freshids: &[u8],
     ends: &mut [u32],
     marks: &mut [u8],
-) -> Outcome
+) -> Result<Merged, Refusal>
     requires { (0 < length ends.old) × (0 < length marks.old) }
     ensures { (marked : ℕ) (label : Label) → committed count (lent_to times.old ids.old needed.old marked label size done) (lent fresh.now freshids.now) ≡ record { answer = outcome_of result; lent = lent_to times.new ids.new needed.new marked label (needed_by size result) done } }
 {
-    match inquire_with(
+    let inquiry = inquire_with(
         times, ids, count, needed, size, done, fresh, freshids, ends, marks,
-    ) {
-        Inquiry::Refused { refusal } => Outcome::Refused { refusal },
-        Inquiry::Counted {
-            entering,
-            staying: _,
-        } => {
-            merge(times, ids, count, fresh, freshids);
-            let left = take_out(needed, size, freshids, fresh.len(), ends, marks);
-            Outcome::Merged {
-                count: count + entering,
-                needed: left,
-            }
-        }
-    }
+    )?;
+    merge(times, ids, count, fresh, freshids);
+    let left = take_out(needed, size, freshids, fresh.len(), ends, marks);
+    Ok(Merged {
+        count: count + inquiry.entering,
+        needed: left,
+    })
 }
 
-// As `commit`, for at most 1,024 needed ids.
-fn commit_few(
+// As `commit`, with room for E hints and for the marks of 8 M needed ids at a time.
+fn commit_sized<const E: usize, const M: usize>(
     times: &mut [u64],
     ids: &mut [u8],
     count: usize,
@@ -212,31 +175,12 @@ fn commit_few(
     done: bool,
     fresh: &[u64],
     freshids: &[u8],
-) -> Outcome
+) -> Result<Merged, Refusal>
+    requires { (0 < E) × (E ≤ 1048576) × (0 < M) × (M ≤ 1048576) }
     ensures { (marked : ℕ) (label : Label) → committed count (lent_to times.old ids.old needed.old marked label size done) (lent fresh.now freshids.now) ≡ record { answer = outcome_of result; lent = lent_to times.new ids.new needed.new marked label (needed_by size result) done } }
 {
-    let mut ends = [0u32; 128];
-    let mut marks = [0u8; 128];
-    commit_with(
-        times, ids, count, needed, size, done, fresh, freshids, &mut ends, &mut marks,
-    )
-}
-
-// As `commit`, for any number of needed ids.
-fn commit_many(
-    times: &mut [u64],
-    ids: &mut [u8],
-    count: usize,
-    needed: &mut [u8],
-    size: usize,
-    done: bool,
-    fresh: &[u64],
-    freshids: &[u8],
-) -> Outcome
-    ensures { (marked : ℕ) (label : Label) → committed count (lent_to times.old ids.old needed.old marked label size done) (lent fresh.now freshids.now) ≡ record { answer = outcome_of result; lent = lent_to times.new ids.new needed.new marked label (needed_by size result) done } }
-{
-    let mut ends = [0u32; 16384];
-    let mut marks = [0u8; 131072];
+    let mut ends = [0u32; E];
+    let mut marks = [0u8; M];
     commit_with(
         times, ids, count, needed, size, done, fresh, freshids, &mut ends, &mut marks,
     )
@@ -253,11 +197,12 @@ pub fn commit(
     done: bool,
     fresh: &[u64],
     freshids: &[u8],
-) -> Outcome
+) -> Result<Merged, Refusal>
     ensures { (marked : ℕ) (label : Label) → committed count (lent_to times.old ids.old needed.old marked label size done) (lent fresh.now freshids.now) ≡ record { answer = outcome_of result; lent = lent_to times.new ids.new needed.new marked label (needed_by size result) done } }
 {
     if size <= 1024 {
-        return commit_few(times, ids, count, needed, size, done, fresh, freshids);
+        commit_sized::<128, 128>(times, ids, count, needed, size, done, fresh, freshids)
+    } else {
+        commit_sized::<16384, 131072>(times, ids, count, needed, size, done, fresh, freshids)
     }
-    commit_many(times, ids, count, needed, size, done, fresh, freshids)
 }

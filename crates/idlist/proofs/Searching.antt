@@ -5,15 +5,17 @@ use mathlib.Core.Bool.{Bool, true, false, ◌&&◌, ◌||◌}
 use mathlib.Core.List.{List, [], ◌∷◌}
 use native.Mathlib.Omega.{arith}
 use lib.Dec.{eqb, ltb}
-use lib.ListN.{length, take, drop, get_or, drop_of_length-le}
-use lib.Seq.{drop-cons, drop-drop, take-take, length-take-le}
-use borrow.Author.Tests.{ltb-true, ltb-false, eq-eqb, ne_eqb, eqb-true, eqb-false, lt-ltb, le-ltb}
+use lib.ListN.{length, take, drop}
+use lib.Pointwise.{pointwise}
+use lib.Seq.{drop-drop, take-take, length-take-le}
+use borrow.Author.Tests.{ltb-true, ltb-false}
 use Rattle.message.specs.Bound.{big_endian}
 use Rattle.message.specs.Code.{ids_in}
 use Rattle.message.specs.WellFormed.{Sized}
 use Rattle.message.proofs.Exact.{by_test, bytes_take}
 use Rattle.message.proofs.Order.{Small, small_bytes}
 use Rattle.table.proofs.Words.{big_endian-take}
+use Rattle.std.proofs.Common.{Option, Some, None, MatchOption}
 use Rattle.ends.specs.Lists.{some, same}
 use Rattle.ends.proofs.Reports.{same_number}
 use Rattle.ends.proofs.Tables.{same_true}
@@ -28,29 +30,12 @@ and_false false = refl
 
 -- ---- bytes
 
-pub other_length : (p q : List ℕ) → (length p ≡ length q → ⊥) → false ≡ same p q
+pub same_pointwise : (p q : List ℕ) → pointwise eqb p q ≡ same p q
 unfolding same
-other_length [] [] h = absurd (h refl)
-other_length [] (y ∷ q) h = refl
-other_length (x ∷ p) [] h = refl
-other_length (x ∷ p) (y ∷ q) h = rw (← other_length p q (λ e. h (ap suc e))) (sym (and_false (eqb x y)))
-
-module _ (p q : List ℕ) (i : ℕ) where
-  next : i < length p → i < length q → same (drop i p) (drop i q) ≡ (eqb (get_or p i 0) (get_or q i 0) && same (drop (suc i) p) (drop (suc i) q))
-  unfolding same
-  next h k = rw (drop-cons p i 0 h, drop-cons q i 0 k) refl
-
-  pub other_byte : i < length p → i < length q → (get_or p i 0 ≡ get_or q i 0 → ⊥) → same (drop i p) (drop i q) ≡ false
-  other_byte h k d = next h k ∙ rw (ne_eqb (get_or p i 0) (get_or q i 0) d) refl
-
-  pub same_byte : i < length p → i < length q → get_or p i 0 ≡ get_or q i 0 → same (drop i p) (drop i q) ≡ same (drop (i + 1) p) (drop (i + 1) q)
-  same_byte h k e =
-      let one : suc i ≡ i + 1 = omega arith in
-      next h k ∙ rw (eq-eqb (get_or p i 0) (get_or q i 0) e, one) refl
-
-  pub no_byte : length p ≤ i → length q ≤ i → same (drop i p) (drop i q) ≡ true
-  unfolding same
-  no_byte h k = rw (drop_of_length-le p h, drop_of_length-le q k) refl
+same_pointwise [] [] = refl
+same_pointwise [] (y ∷ q) = refl
+same_pointwise (x ∷ p) [] = refl
+same_pointwise (x ∷ p) (y ∷ q) = rw (same_pointwise p q) refl
 
 -- ---- ids
 
@@ -61,16 +46,6 @@ other_word d e h = by_test (same (take 32 d) (take 32 e)) (λ p. absurd (h (sym 
     first_word : (l : List ℕ) → big_endian 8 (take 32 l) ≡ big_endian 8 l
     first_word l = sym (big_endian-take 8 (take 32 l)) ∙ ap (big_endian 8) (take-take 8 32 l (omega arith)) ∙ big_endian-take 8 l
 
--- numbers of which neither is below the other are equal
-pub neither_below : (x y : ℕ) → ltb x y ≡ false → ltb y x ≡ false → true ≡ eqb x y
-neither_below x y e f = sym (eq-eqb x y (omega (arith, ltb-false x y e, ltb-false y x f)))
-
-pub below_other : (x y : ℕ) → ltb x y ≡ true → false ≡ eqb x y
-below_other x y e = sym (ne_eqb x y (λ q. omega (arith, ltb-true x y e)))
-
-pub above_other : (x y : ℕ) → ltb y x ≡ true → false ≡ eqb x y
-above_other x y e = sym (ne_eqb x y (λ q. omega (arith, ltb-true y x e)))
-
 -- ids with the same number are the same
 pub same-by-number : (d e : List ℕ) → Small d → Small e → 32 ≤ length d → 32 ≤ length e → same (take 32 d) (take 32 e) ≡ eqb (big_endian 32 d) (big_endian 32 e)
 same-by-number d e sd se ld le =
@@ -78,6 +53,11 @@ same-by-number d e sd se ld le =
   where
     sized : (l : List ℕ) → Small l → 32 ≤ length l → Sized 32 (take 32 l)
     sized l s h = (length-take-le 32 l h, (bytes_take 32 l (small_bytes l s)).0)
+
+-- what a None comes with
+pub or_none : {A P R : Type 0} (o : Option A) (Q : A → Type 0) → (P → R) → MatchOption o P Q → MatchOption o R Q
+or_none None Q f h = f h
+or_none (Some x) Q f h = h
 
 -- the search from place i on
 abbrev pub left : List ℕ → List ℕ → ℕ → ℕ → Bool
@@ -116,16 +96,18 @@ module _ (d list : List ℕ) (count : ℕ) where
   none_from zero i e none = no-id d list count i (omega arith)
   none_from (suc n) i e none = id_other d list count i (omega arith) (none i (omega arith) (omega arith)) ∙ none_from n (i + 1) (omega arith) (λ j h. none j (omega arith))
 
-  pub stands_here : (i : ℕ) → i < count → same d (take 32 (drop (i * 32) list)) ≡ true → ltb i count ≡ some (same d) (ids_in count list)
-  stands_here i h s = lt-ltb i count h ∙ sym (all_left d list count ∙ found_from i 0 i (omega arith) h s)
+  stands_here : (i : ℕ) → i < count → same d (take 32 (drop (i * 32) list)) ≡ true → some (same d) (ids_in count list) ≡ true
+  stands_here i h s = all_left d list count ∙ found_from i 0 i (omega arith) h s
 
-  pub stands-nowhere : ((j : ℕ) → j < count → same d (take 32 (drop (j * 32) list)) ≡ false) → ltb count count ≡ some (same d) (ids_in count list)
-  stands-nowhere none = le-ltb count count (omega arith) ∙ sym (all_left d list count ∙ none_from count 0 (omega arith) (λ j h. none j))
+  stands-nowhere : ((j : ℕ) → j < count → same d (take 32 (drop (j * 32) list)) ≡ false) → some (same d) (ids_in count list) ≡ false
+  stands-nowhere none = all_left d list count ∙ none_from count 0 (omega arith) (λ j h. none j)
 
--- the ids from place `from` up to place i are others, and the next one is
-pub others-next : (d list : List ℕ) (from i : ℕ) → ((j : ℕ) → from ≤ j → j < i → same d (take 32 (drop (j * 32) list)) ≡ false) → same d (take 32 (drop (i * 32) list)) ≡ false
-    → (j : ℕ) → from ≤ j → j < i + 1 → same d (take 32 (drop (j * 32) list)) ≡ false
-others-next d list from i others e j h l =
-    by_test (eqb j i)
-    (λ q. rw (eqb-true j i q) e)
-    (λ q. others j h (omega (arith, eqb-false j i q)))
+  -- the ids from place `from` on, then those before
+  abbrev pub Between : ℕ → ℕ → Option ℕ → Type 0
+  Between from to r = MatchOption r ((j : ℕ) → from ≤ j → j < to → same d (take 32 (drop (j * 32) list)) ≡ false) (λ i. (i < to) × (same d (take 32 (drop (i * 32) list)) ≡ true))
+
+  pub found_in : (from : ℕ) (behind r : Option ℕ) → from ≤ count → Between from count behind → MatchOption behind (Between 0 from r) (λ i. r ≡ Some i)
+      → MatchOption r (some (same d) (ids_in count list) ≡ false) (λ i. (i < count) × (some (same d) (ids_in count list) ≡ true))
+  found_in from None None h b a = stands-nowhere (λ j l. by_test (ltb j from) (λ e. a j (omega arith) (ltb-true j from e)) (λ e. b j (ltb-false j from e) l))
+  found_in from None (Some i) h b a = let l : i < from = a.0 in (omega arith, stands_here i (omega arith) a.1)
+  found_in from (Some i) r h b a = rw a (b.0, stands_here i b.0 b.1)

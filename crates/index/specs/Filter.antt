@@ -1,14 +1,14 @@
 -- For contracts of functions that only our own crates call: a filter beside an index.
-use Rattle.std.specs.Prelude.{ℕ, ◌+◌, ◌%◌, ◌≤◌, ◌<◌, ◌≡◌, List, ◌⊎◌, length, get_or}
+use Rattle.std.specs.Prelude.{ℕ, ◌%◌, ◌≤◌, ◌<◌, ◌≡◌, List, ◌⊎◌, length, get_or}
 
 -- the byte of a filter that stands for a word
 abbrev pub slot_of : ℕ → ℕ
 slot_of w = w % 32768
 
--- behind the first `at` bytes of `found` stand 32,768 others, 1 where one of the first n words has them
-pub record Filtered (words : List ℕ) (n : ℕ) (found : List ℕ) (at : ℕ) : Type 0 where
-  pub long : at + 32768 ≤ length found
-  pub noted : (k : ℕ) → k < n → get_or found (at + slot_of (get_or words k 0)) 0 ≡ 1
+-- 32,768 bytes at least, 1 where one of the first n words has them
+pub record Filtered (words : List ℕ) (n : ℕ) (filter : List ℕ) : Type 0 where
+  pub long : 32768 ≤ length filter
+  pub noted : (k : ℕ) → k < n → get_or filter (slot_of (get_or words k 0)) 0 ≡ 1
 
 -- the first n words do not fall
 abbrev pub Rises : List ℕ → ℕ → Type 0

@@ -1,5 +1,5 @@
 // What the reply says of the table.
-ghost use Rattle.std.specs.Prelude.{◌≡◌, length};
+ghost use Rattle.std.specs.Prelude.{◌+◌, ◌<◌, ◌≤◌, ◌≡◌, length};
 ghost use Rattle.message.specs.Code.{payload_of};
 ghost use Rattle.writer.specs.Private as W;
 ghost use Rattle.reader.specs.Private.{ranges_at};
@@ -67,25 +67,18 @@ fn reply_with(
     true
 }
 
-// As `reply_of_table`, for a reply that lists few ids.
-fn reply_of_few(times: &[u64], own: &[u8], reply: &[u8]) -> bool
-    requires { Passed (lent times.now own.now) × Walking (lent times.now own.now) reply.now starts }
+// The same, with room for so many ids.
+fn reply_sized<const W: usize, const P: usize, const F: usize>(
+    times: &[u64],
+    own: &[u8],
+    reply: &[u8],
+) -> bool
+    requires { Passed (lent times.now own.now) × Walking (lent times.now own.now) reply.now starts × (0 < W) × (W + W + 1 < P) × (W ≤ 1048576) × (0 < F) }
     ensures { result ≡ every_range (truth (lent times.now own.now)) (ranges_at reply.now starts.cursor) }
 {
-    let mut words = [0u64; 256];
-    let mut pos = [0usize; 520];
-    let mut found = [0u8; 256];
-    reply_with(times, own, reply, &mut words, &mut pos, &mut found)
-}
-
-// As `reply_of_table`, for a reply that may list many ids.
-fn reply_of_many(times: &[u64], own: &[u8], reply: &[u8]) -> bool
-    requires { Passed (lent times.now own.now) × Walking (lent times.now own.now) reply.now starts }
-    ensures { result ≡ every_range (truth (lent times.now own.now)) (ranges_at reply.now starts.cursor) }
-{
-    let mut words = [0u64; 11008];
-    let mut pos = [0usize; 22024];
-    let mut found = [0u8; 43776];
+    let mut words = [0u64; W];
+    let mut pos = [0usize; P];
+    let mut found = [0u8; F];
     reply_with(times, own, reply, &mut words, &mut pos, &mut found)
 }
 
@@ -94,8 +87,10 @@ pub(crate) fn reply_of_table(times: &[u64], own: &[u8], reply: &[u8]) -> bool
     requires { Passed (lent times.now own.now) × Walking (lent times.now own.now) reply.now starts }
     ensures { result ≡ every_range (truth (lent times.now own.now)) (ranges_at reply.now starts.cursor) }
 {
+    // A short reply lists few ids, and is spared the large arrays.
     if reply.len() <= 8192 {
-        return reply_of_few(times, own, reply);
+        reply_sized::<256, 520, 256>(times, own, reply)
+    } else {
+        reply_sized::<11008, 22024, 43776>(times, own, reply)
     }
-    reply_of_many(times, own, reply)
 }

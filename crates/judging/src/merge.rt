@@ -52,15 +52,11 @@ impl Edge {
     fn is_below(self, other: Edge) -> bool
         ensures { result ≡ ltb (key (edge_of self)) (key (edge_of other)) }
     {
-        let bound = self.bound;
-        let prefix = self.prefix;
-        let upper = other.bound;
-        let beside = other.prefix;
         below(
-            bound.time(),
-            bound.prefix(&prefix),
-            upper.time(),
-            upper.prefix(&beside),
+            self.bound.time(),
+            self.bound.prefix(&self.prefix),
+            other.bound.time(),
+            other.bound.prefix(&other.prefix),
         )
     }
 }
@@ -69,40 +65,20 @@ impl Edge {
 fn is_skip(payload: Payload) -> bool
     ensures { (m : List ℕ) → result ≡ is_skip (payload_of payload m) }
 {
-    match payload {
-        Payload::Skip => true,
-        Payload::Fingerprint { at: _ } => false,
-        Payload::Ids { count: _, at: _ } => false,
-    }
+    matches!(payload, Payload::Skip)
 }
 
 fn is_ids(payload: Payload) -> bool
     ensures { (m : List ℕ) → result ≡ is_ids (payload_of payload m) }
 {
-    match payload {
-        Payload::Skip => false,
-        Payload::Fingerprint { at: _ } => false,
-        Payload::Ids { count: _, at: _ } => true,
-    }
-}
-
-fn both(a: bool, b: bool) -> bool
-    ensures { result ≡ (a && b) }
-{
-    if a {
-        return b;
-    }
-    false
+    matches!(payload, Payload::Ids { .. })
 }
 
 // One more; 2 stands for more.
 fn one_more(n: usize) -> usize
     ensures { (k : ℕ) → leb 2 (result + k) ≡ leb 2 (n + suc k) }
 {
-    if n < 2 {
-        return n + 1;
-    }
-    n
+    if n < 2 { n + 1 } else { n }
 }
 
 impl Asked {
@@ -110,12 +86,10 @@ impl Asked {
     fn allows(self, payload: Payload) -> bool
         ensures { (m : List ℕ) → result ≡ allowed self (payload_of payload m) }
     {
-        let skip = is_skip(payload);
-        let ids = is_ids(payload);
         match self {
-            Asked::Skip => skip,
-            Asked::Division => !skip,
-            Asked::Ids => ids,
+            Asked::Skip => is_skip(payload),
+            Asked::Division => !is_skip(payload),
+            Asked::Ids => is_ids(payload),
         }
     }
 
@@ -124,14 +98,8 @@ impl Asked {
         ensures { result ≡ roomy self listed met }
     {
         match self {
-            Asked::Skip => true,
-            Asked::Division => {
-                if listed {
-                    return true;
-                }
-                2 <= met
-            }
-            Asked::Ids => true,
+            Asked::Skip | Asked::Ids => true,
+            Asked::Division => listed || 2 <= met,
         }
     }
 }
@@ -144,12 +112,10 @@ impl Sofar {
         if !meets {
             return self;
         }
-        let allowed = asked.allows(payload);
-        let ids = is_ids(payload);
         Sofar {
-            fits: both(self.fits, allowed),
+            fits: self.fits && asked.allows(payload),
             met: one_more(self.met),
-            listed: both(self.listed, ids),
+            listed: self.listed && is_ids(payload),
         }
     }
 
@@ -157,8 +123,7 @@ impl Sofar {
     fn conclude(self, asked: Asked) -> bool
         ensures { result ≡ concludes asked self [] }
     {
-        let enough = asked.enough(self.listed, self.met);
-        both(self.fits, enough)
+        self.fits && asked.enough(self.listed, self.met)
     }
 }
 
@@ -171,11 +136,12 @@ fn asks(m: &[u8], times: &[u64], own: &[u8], span: Span, payload: Payload) -> As
         Payload::Skip => Asked::Skip,
         Payload::Fingerprint { at } => {
             if equals_own(m, at, times, own, span) {
-                return Asked::Skip;
+                Asked::Skip
+            } else {
+                Asked::Division
             }
-            Asked::Division
         }
-        Payload::Ids { count: _, at: _ } => Asked::Ids,
+        Payload::Ids { .. } => Asked::Ids,
     }
 }
 
@@ -243,11 +209,7 @@ fn rest_answered(times: &[u64], own: &[u8], reply: &[u8], walk: Walk, lower: Edg
         bound: Bound::Infinity,
         prefix,
     };
-    if !lower.is_below(end) {
-        return true;
-    }
-    let met = range_answered(Asked::Skip, times, own, reply, walk, lower, end);
-    met.fits
+    !lower.is_below(end) || range_answered(Asked::Skip, times, own, reply, walk, lower, end).fits
 }
 
 // Whether every range of the query is answered.

@@ -16,16 +16,7 @@ fn same_order(list: &[u8], other: &[u8], count: usize) -> bool
     requires { (count * 32 ≤ length list.now) × (count * 32 ≤ length other.now) }
     ensures { result ≡ true → ids_in count list.now ≡ ids_in count other.now }
 {
-    let mut i = 0;
-    while i < count {
-        let at = i * 32;
-        let first = word(list, at);
-        if !stands_at(other, at, &list[at..], first) {
-            return false;
-        }
-        i += 1;
-    }
-    true
+    list[..count * 32] == other[..count * 32]
 }
 
 // Whether none of the first n bytes is 0.
@@ -33,14 +24,7 @@ fn all_found(found: &[u8], n: usize) -> bool
     requires { n ≤ length found.now }
     ensures { Noted found.now n result }
 {
-    let mut i = 0;
-    while i < n {
-        if found[i] == 0 {
-            return false;
-        }
-        i += 1;
-    }
-    true
+    found[..n].iter().all(|x| *x != 0)
 }
 
 // Whether each of the n ids that begin a slice is one of the `count` ids that begin a list, as many at a time as `found` has room for.
@@ -82,13 +66,9 @@ pub(crate) fn same_ids(
     requires { (count * 32 ≤ length list.now) × (more * 32 ≤ length other.now) × Room words.old pos.old found.old }
     ensures { result ≡ same_ids (ids_in count list.now) (ids_in more other.now) }
 {
-    if count == more {
-        if same_order(list, other, count) {
-            return true;
-        }
+    if count == more && same_order(list, other, count) {
+        return true;
     }
-    if !all_listed(other, more, list, count, words, pos, found) {
-        return false;
-    }
-    all_listed(list, count, other, more, words, pos, found)
+    all_listed(other, more, list, count, words, pos, found)
+        && all_listed(list, count, other, more, words, pos, found)
 }

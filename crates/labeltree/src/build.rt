@@ -3,15 +3,15 @@ ghost use Rattle.std.specs.Prelude.{◌≡◌, ◌+◌, ◌-◌, ◌*◌, ◌^�
 ghost use Rattle.label.specs.Label.{label_of};
 ghost use Rattle.label.specs.Code.{label_in, whole_ids};
 ghost use Rattle.table.specs.Answer.{verdict_of, bytes_in};
-ghost use Rattle.table.specs.Code.{checked_of, lent};
+ghost use Rattle.table.specs.Code.{answer_of, lent};
 ghost use Rattle.tree.specs.Tree as spec;
 ghost use Rattle.tree.specs.Private.{placed, renew_below, tree_fault};
 
 use crate::depth::{depth_of, has_size};
 use crate::stored::{put_label, renew};
 use label::Label;
+use table::Refusal;
 use table::check::check_table;
-use table::{Checked, Refusal};
 
 // The label of a place: empty behind the last item.
 fn label_of_place(ids: &[u8], place: usize) -> Label
@@ -20,9 +20,7 @@ fn label_of_place(ids: &[u8], place: usize) -> Label
     if ids.len() / 32 <= place {
         return Label::EMPTY;
     }
-    let at = place * 32;
-    let end = at + 32;
-    Label::of_id(&ids[at..end])
+    Label::of_id(&ids[place * 32..place * 32 + 32])
 }
 
 // Stores the labels of all places.
@@ -30,15 +28,12 @@ fn store_places(ids: &[u8], places: usize, tree: &mut [u8])
     requires { (1 ≤ places) × (length tree.old ≡ 40 * (places + places - 1)) }
     ensures { tree.new ≡ placed places (whole_ids ids.now) places tree.old }
 {
-    let mut place = 0;
-    while place < places {
+    for place in 0..places {
         put_label(tree, places - 1 + place, label_of_place(ids, place));
-        place += 1;
     }
 }
 
 // Makes label `at` and all labels below it afresh, each from its two halves, down to the places, `level` levels below it.
-#[tactic(auto, using(tree::proofs::Building::renewed_pair))]
 fn sum_halves(tree: &mut [u8], level: usize, at: usize)
     requires { 40 * ((at + 2) * 2 ^ level) ≤ length tree.old + 40 }
     ensures { tree.new ≡ renew_below level at tree.old }
@@ -46,13 +41,11 @@ fn sum_halves(tree: &mut [u8], level: usize, at: usize)
     if level == 0 {
         return;
     }
-    // Both halves are places: a call for each of them would only return.
-    if level == 1 {
-        renew(tree, at);
-        return;
+    // Where both halves are places, a call for each of them would only return.
+    if level > 1 {
+        sum_halves(tree, level - 1, 2 * at + 1);
+        sum_halves(tree, level - 1, 2 * at + 2);
     }
-    sum_halves(tree, level - 1, 2 * at + 1);
-    sum_halves(tree, level - 1, 2 * at + 2);
     renew(tree, at);
 }
 
@@ -67,35 +60,23 @@ fn build_whole(ids: &[u8], n: usize, tree: &mut [u8])
 }
 
 // Checks 1, 2 and 13, for a tree of `len` bytes.
-fn check_build(times: &[u64], ids: &[u8], len: usize) -> Checked
-    ensures { checked_of result ≡ tree_fault (lent times.now ids.now) len }
+fn check_build(times: &[u64], ids: &[u8], len: usize) -> Result<(), Refusal>
+    ensures { answer_of result ≡ tree_fault (lent times.now ids.now) len }
 {
-    match check_table(times, ids) {
-        Checked::Refused { refusal } => Checked::Refused { refusal },
-        Checked::Passed => {
-            let depth = depth_of(times.len());
-            if has_size(len, depth.places) {
-                Checked::Passed
-            } else {
-                Checked::Refused {
-                    refusal: Refusal::WrongTree,
-                }
-            }
-        }
+    check_table(times, ids)?;
+    let depth = depth_of(times.len());
+    if !has_size(len, depth.places) {
+        return Err(Refusal::WrongTree);
     }
+    Ok(())
 }
 
 // Makes the lent bytes the tree over the items of a table. Refused: 1, 2 and 13.
-pub fn build(times: &[u64], ids: &[u8], tree: &mut [u8]) -> Checked
-    ensures result_value { checked_of result ≡ verdict_of (spec.build (lent times.now ids.now) tree.old) }
+pub fn build(times: &[u64], ids: &[u8], tree: &mut [u8]) -> Result<(), Refusal>
+    ensures result_value { answer_of result ≡ verdict_of (spec.build (lent times.now ids.now) tree.old) }
     ensures tree_after { tree.new ≡ bytes_in (spec.build (lent times.now ids.now) tree.old) tree.old }
 {
-    let checked = check_build(times, ids, tree.len());
-    match checked {
-        Checked::Refused { refusal } => Checked::Refused { refusal },
-        Checked::Passed => {
-            build_whole(ids, times.len(), tree);
-            Checked::Passed
-        }
-    }
+    check_build(times, ids, tree.len())?;
+    build_whole(ids, times.len(), tree);
+    Ok(())
 }

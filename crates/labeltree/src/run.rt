@@ -3,13 +3,12 @@ ghost use Rattle.std.specs.Prelude.{◌≡◌, ◌+◌, ◌*◌, ◌≤◌, leng
 ghost use Rattle.tree.specs.Tree as spec;
 ghost use Rattle.labeltree.specs.Code.{found_in};
 ghost use Rattle.tree.specs.Private.{Reaches};
-ghost use Rattle.table.specs.Answer.{verdict_of};
-ghost use Rattle.table.specs.Code.{checked_of};
+ghost use Rattle.table.specs.Code.{answer_by};
 
 use crate::depth::{depth_of, has_size};
 use crate::stored::read_label;
 use label::Label;
-use table::{Checked, Refusal};
+use table::Refusal;
 
 // The label of some places, and how many labels were visited for it.
 #[derive(Clone, Copy)]
@@ -18,25 +17,12 @@ pub struct Found {
     pub visited: u64,
 }
 
-// The label of a run; the empty label and 0, where the check refuses.
-#[derive(Clone, Copy)]
-pub struct RunLabel {
-    pub checked: Checked,
-    pub found: Found,
-}
-
 // Whether no place of the `size` places from `first` on is in the run.
 fn is_outside(from: usize, to: usize, first: usize, size: usize) -> bool
     requires { first + size ≤ 18446744073709551615 }
     ensures { result ≡ spec.outside from to first size }
 {
-    if to <= from {
-        return true;
-    }
-    if to <= first {
-        return true;
-    }
-    first + size <= from
+    to <= from || to <= first || first + size <= from
 }
 
 // Whether each of them is.
@@ -44,10 +30,7 @@ fn is_inside(from: usize, to: usize, first: usize, size: usize) -> bool
     requires { first + size ≤ 18446744073709551615 }
     ensures { result ≡ spec.inside from to first size }
 {
-    if first < from {
-        return false;
-    }
-    first + size <= to
+    from <= first && first + size <= to
 }
 
 // The whole and its two halves, which were visited.
@@ -55,17 +38,13 @@ fn both(left: Found, right: Found) -> Found
     requires { left.visited + right.visited + 1 ≤ 18446744073709551615 }
     ensures { found_in result ≡ spec.both (found_in left) (found_in right) }
 {
-    let a = left.label;
-    let b = right.label;
-    let label = a.add(b);
     Found {
-        label,
+        label: left.label.add(right.label),
         visited: 1 + left.visited + right.visited,
     }
 }
 
 // Visits label `at`, that of the `size` places from `first` on, 2 to the power `level`.
-#[tactic(auto, using(crate::proofs::Visits::place_visited))]
 fn visit_half(
     tree: &[u8],
     from: usize,
@@ -84,13 +63,7 @@ fn visit_half(
             visited: 1,
         };
     }
-    if level == 0 {
-        return Found {
-            label: read_label(tree, at),
-            visited: 1,
-        };
-    }
-    if is_inside(from, to, first, size) {
+    if level == 0 || is_inside(from, to, first, size) {
         return Found {
             label: read_label(tree, at),
             visited: 1,
@@ -102,36 +75,14 @@ fn visit_half(
     both(left, right)
 }
 
-// The end of a run, cut to the places that exist.
-fn cut_to(places: usize, to: usize) -> usize
-    ensures { result ≡ spec.cut_to places to }
-{
-    if to <= places {
-        return to;
-    }
-    places
-}
-
 // The label of the places from `from` to below `to`, cut to those that the tree has. Refused: 13.
-pub fn label_of_run(tree: &[u8], from: usize, to: usize) -> RunLabel
-    ensures checked_value { checked_of result.checked ≡ verdict_of (spec.label_of_run tree.now from to) }
-    ensures found_value { found_in result.found ≡ spec.or_nothing (spec.label_of_run tree.now from to) }
+pub fn label_of_run(tree: &[u8], from: usize, to: usize) -> Result<Found, Refusal>
+    ensures { answer_by found_in result ≡ spec.label_of_run tree.now from to }
 {
     let depth = depth_of(tree.len() / 80 + 1);
     if !has_size(tree.len(), depth.places) {
-        return RunLabel {
-            checked: Checked::Refused {
-                refusal: Refusal::WrongTree,
-            },
-            found: Found {
-                label: Label::EMPTY,
-                visited: 0,
-            },
-        };
+        return Err(Refusal::WrongTree);
     }
-    let end = cut_to(depth.places, to);
-    RunLabel {
-        checked: Checked::Passed,
-        found: visit_half(tree, from, end, depth.levels, depth.places, 0, 0),
-    }
+    let end = to.min(depth.places);
+    Ok(visit_half(tree, from, end, depth.levels, depth.places, 0, 0))
 }

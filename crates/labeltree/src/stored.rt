@@ -11,9 +11,7 @@ pub(crate) fn read_label(tree: &[u8], i: usize) -> Label
     requires { 40 * i + 40 ≤ length tree.now }
     ensures { label_in result ≡ spec.label_at tree.now i }
 {
-    let at = 40 * i;
-    let end = at + 40;
-    Label::read(&tree[at..end])
+    Label::read(&tree[40 * i..40 * i + 40])
 }
 
 // Stores a label as label i.
@@ -21,9 +19,7 @@ pub(crate) fn put_label(tree: &mut [u8], i: usize, label: Label)
     requires { 40 * i + 40 ≤ length tree.old }
     ensures { tree.new ≡ spec.put_label i (label_in label) tree.old }
 {
-    let at = 40 * i;
-    let end = at + 40;
-    label.write(&mut tree[at..end]);
+    label.write(&mut tree[40 * i..40 * i + 40]);
 }
 
 // Makes label i afresh from its two halves.

@@ -1,14 +1,14 @@
 -- The items that a table and a batch both have: two lists that rise, gone through from their first items. The lower of the two first items is not in the other list.
 use Prim.Native.Nat.{ℕ, zero, suc, ◌+◌, ◌≤◌, ◌<◌}
 use mathlib.Core.Path.{◌≡◌, refl, sym, ◌∙◌}
-use mathlib.Core.Bool.{Bool, true, false, not}
+use mathlib.Core.Bool.{Bool, true, false}
 use mathlib.Core.List.{List, [], ◌∷◌, map}
 use native.Mathlib.Omega.{arith}
 use native.Mathlib.Numerals.{add-one}
 use lib.Dec.{ltb}
 use lib.ListN.{length, drop, get_or, drop_of_length-le}
 use lib.Seq.{drop-cons}
-use borrow.Author.Tests.{ltb-true, ltb-false, not-true, not-false}
+use borrow.Author.Tests.{ltb-true, ltb-false}
 use Rattle.message.specs.WellFormed.{Bytes}
 use Rattle.message.proofs.Exact.{by_test}
 use Rattle.table.specs.Table.{Item, key_of, Table, items}
@@ -105,15 +105,15 @@ module _ (T B : Table) where
         rw (first-there T i hi)
         (skip-ours (item_at T i) (drop (i + 1) (items T)) (drop j (items B)) (lacks_lower B j hj batch (item_at T i) (ltb-true x y (sym e ∙ f))))
 
-    pub batch-lower : (q : Bool) → q ≡ ltb (key_of (item_at B j)) (key_of (item_at T i)) → not q ≡ false → common_from i j ≡ common_from i (j + 1)
+    pub batch-lower : (q : Bool) → q ≡ ltb (key_of (item_at B j)) (key_of (item_at T i)) → q ≡ true → common_from i j ≡ common_from i (j + 1)
     batch-lower q e f =
         rw (first-there B j hj)
-        (skip-batch (item_at B j) (drop i (items T)) (drop (j + 1) (items B)) (lacks_lower T i hi ours (item_at B j) (ltb-true y x (sym e ∙ not-false q f))))
+        (skip-batch (item_at B j) (drop i (items T)) (drop (j + 1) (items B)) (lacks_lower T i hi ours (item_at B j) (ltb-true y x (sym e ∙ f))))
 
     -- neither is lower: it is the same item
-    pub both-here : (r q : Bool) → r ≡ ltb (key_of (item_at T i)) (key_of (item_at B j)) → r ≡ false → q ≡ ltb (key_of (item_at B j)) (key_of (item_at T i)) → not q ≡ true
+    pub both-here : (r q : Bool) → r ≡ ltb (key_of (item_at T i)) (key_of (item_at B j)) → r ≡ false → q ≡ ltb (key_of (item_at B j)) (key_of (item_at T i)) → q ≡ false
         → Bytes T.ids → Bytes B.ids → common_from i j ≡ true
     both-here r q e f g h bt bb =
-        let same : y ≡ x = omega (arith, ltb-false x y (sym e ∙ f), ltb-false y x (sym g ∙ not-true q h)) in
+        let same : y ≡ x = omega (arith, ltb-false x y (sym e ∙ f), ltb-false y x (sym g ∙ h)) in
         rw (first-there T i hi, first-there B j hj)
         (both_first (item_at T i) (item_at B j) (drop (i + 1) (items T)) (drop (j + 1) (items B)) (whole-there T i hi bt ours) (whole-there B j hj bb batch) same)

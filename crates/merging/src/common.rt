@@ -15,17 +15,14 @@ pub fn some_common(times: &[u64], ids: &[u8], fresh: &[u64], freshids: &[u8]) ->
 {
     let mut i = 0;
     let mut j = 0;
-    while i < times.len() {
-        if fresh.len() <= j {
-            return false;
-        }
+    // No `for`: of two places now one moves on, now the other.
+    while i < times.len() && j < fresh.len() {
         if item_below(times, ids, i, fresh, freshids, j) {
             i += 1;
-        } else {
-            if !item_below(fresh, freshids, j, times, ids, i) {
-                return true;
-            }
+        } else if item_below(fresh, freshids, j, times, ids, i) {
             j += 1;
+        } else {
+            return true;
         }
     }
     false

@@ -16,15 +16,5 @@ pub(crate) fn item_below(t: &[u64], p: &[u8], i: usize, u: &[u64], q: &[u8], j: 
     requires { (i < length t.now) × (i * 32 + 32 ≤ length p.now) × (j < length u.now) × (j * 32 + 32 ≤ length q.now) }
     ensures { result ≡ ltb (key_of (item_at (lent t.now p.now) i)) (key_of (item_at (lent u.now q.now) j)) }
 {
-    let first = t[i];
-    let second = u[j];
-    if first < second {
-        return true;
-    }
-    if second < first {
-        return false;
-    }
-    let at = i * 32;
-    let beside = j * 32;
-    id_below(&p[at..], &q[beside..])
+    t[i] < u[j] || t[i] == u[j] && id_below(&p[i * 32..], &q[j * 32..])
 }

@@ -1,14 +1,11 @@
 -- A listed id as a part of the message.
-use Prim.Native.Nat.{ℕ, zero, suc, ◌+◌, ◌*◌, ◌-◌, ◌<◌, ◌≤◌}
+use Prim.Native.Nat.{ℕ, zero, suc, ◌+◌, ◌*◌, ◌-◌, ◌<◌}
 use mathlib.Core.Path.{◌≡◌, refl, sym, ap, ◌∙◌}
 use mathlib.Core.List.{List, []}
 use native.Mathlib.Omega.{arith}
-use lib.ListN.{length, take, drop, get_or, length-drop, drop_of_length-le}
+use lib.ListN.{length, take, drop, get_or, length-drop}
 use lib.Seq.{drop-drop, take_all}
 use Rattle.message.specs.Code.{ids_in}
-
-pub nothing_left : (m : List ℕ) (n : ℕ) → length m ≤ n → [] ≡ drop n m
-nothing_left m n h = sym (drop_of_length-le m h)
 
 pub part-from : (m : List ℕ) (n : ℕ) → take (length m - n) (drop n m) ≡ drop n m
 part-from m n = take_all (length m - n) (drop n m) (rw (length-drop n m) (omega arith))

@@ -2,14 +2,15 @@
 use Prim.Native.Nat.{ℕ, zero, suc, ◌+◌, ◌-◌, ◌^◌, ◌<◌, ◌≤◌}
 use mathlib.Core.Path.{◌≡◌, refl, sym, ◌∙◌}
 use mathlib.Core.Bool.{Bool, true, false, cond}
-use mathlib.Core.List.{List, []}
+use mathlib.Core.List.{List, [], ◌∷◌}
 use native.Mathlib.Omega.{arith}
 use lib.Dec.{ltb, leb}
-use lib.ListN.{take, drop}
+use lib.ListN.{length}
+use lib.Seq.{take_all}
 use borrow.Author.Tests.{le-leb, lt-leb}
 use Rattle.message.specs.Reader.{Outcome, read, refused, after, give, judge, read_bytes}
 use Rattle.message.specs.Bound.{Bound, infinity, finite, time, prefix, key, above, read_prefix, read_coded}
-use Rattle.message.specs.Code.{bound_of}
+use Rattle.message.specs.Code.{bound_of, length_of}
 use Rattle.message.specs.declared.Bound as code
 use Rattle.message.proofs.Forms.{time_alone, key_is}
 
@@ -44,6 +45,12 @@ judged : (u : Bound) (rest : List ℕ) (t : Bool) → cond t (read u rest) (refu
 judged u rest true = refl
 judged u rest false = refl
 
+-- the part is the prefix of the bound
+pub whole_prefix : (b : code.Bound) (p : List ℕ) → length p ≡ length_of b → p ≡ prefix (bound_of b p)
+whole_prefix code.Bound.Infinity [] h = refl
+whole_prefix code.Bound.Infinity (x ∷ p) h = absurd (omega arith)
+whole_prefix (code.Bound.At t len) p h = sym (take_all len p (omega arith))
+
 module _ (lower : code.Bound) (beside : List ℕ) (t : ℕ) (et : t ≡ time (bound_of lower [])) where
   pub lower-time : time (bound_of lower beside) ≡ t
   lower-time = time_alone lower beside [] ∙ sym et
@@ -51,7 +58,3 @@ module _ (lower : code.Bound) (beside : List ℕ) (t : ℕ) (et : t ≡ time (bo
   pub compared : (p : List ℕ) → p ≡ prefix (bound_of lower beside) → (u : Bound) (rest : List ℕ) {k : ℕ} {r : Bool} {o : Bound → Outcome Bound}
       → r ≡ ltb (key (finite t p)) k → k ≡ key u → ((l : Bound) → time l ≡ t → after (read u rest) (above l) ≡ o l) → cond r (read u rest) (refused 9) ≡ o (bound_of lower beside)
   compared p ep u rest f h e = rw (f, key_is lower beside t p et ep, h) (judged u rest (ltb (key (bound_of lower beside)) (key u)) ∙ e (bound_of lower beside) lower-time)
-
--- a prefix as the code lends it
-pub part-key : (t at len : ℕ) (m : List ℕ) → key (finite t (take (at + len - at) (drop at m))) ≡ key (finite t (take len (drop at m)))
-part-key t at len m = let e : at + len - at ≡ len = omega arith in rw e refl

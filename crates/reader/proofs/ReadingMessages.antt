@@ -1,4 +1,5 @@
 -- Reading range by range comes to the reading of the whole message.
+use Rattle.std.proofs.Common.{Ok, Err}
 use Prim.Native.Nat.{ℕ, zero, suc, ◌+◌, ◌-◌, ◌<◌, ◌≤◌}
 use mathlib.Core.Path.{◌≡◌, refl, sym, ap, ◌∙◌}
 use mathlib.Core.List.{List, [], ◌∷◌}
@@ -13,9 +14,9 @@ use Rattle.message.specs.Code.{number_of, bound_of, range_of}
 use Rattle.message.specs.declared.Refusal.{Refusal}
 use Rattle.message.proofs.Order.{Small, small_bytes, small-drop}
 use Rattle.message.proofs.Messages.{range_shorter, enough}
-use Rattle.reader.specs.Answers.{found_range, range_read, RangePlaced, counted}
+use Rattle.reader.specs.Answers.{counted}
 use Rattle.reader.specs.Private.{lower_at}
-use Rattle.reader.specs.declared.range.Found.{Found}
+use Rattle.reader.specs.Stepping.{ReadAt}
 use Rattle.reader.specs.declared.range.RangeCursor.{RangeCursor}
 use Rattle.reader.specs.declared.range.RangeRead.{RangeRead}
 
@@ -52,19 +53,14 @@ read_at (suc f) n lower (b ∷ l) r rest by e h u =
 
 -- ---- the whole
 
-pub check_empty : (m : List ℕ) → length m ≡ 0 → counted (read_message m) ≡ refused 6
+pub check_other : (m : List ℕ) → (0 < length m → get_or m 0 0 ≡ 0x61 → ⊥) → counted (read_message m) ≡ refused 6
 unfolding read_message
-check_empty [] h = refl
-check_empty (b ∷ m) h = absurd (omega arith)
+check_other [] h = refl
+check_other (b ∷ m) h = rw (ne_eqb b 0x61 (h (omega arith))) refl
 
-pub check_other : (m : List ℕ) → (length m ≡ 0 → ⊥) → (get_or m 0 0 ≡ 0x61 → ⊥) → counted (read_message m) ≡ refused 6
+pub check_ranges : (m : List ℕ) → Small m → 0 < length m → get_or m 0 0 ≡ 0x61 → counted (read_message m) ≡ more 0 (read_ranges (length m) start (drop 1 m))
 unfolding read_message
-check_other [] h k = absurd (h refl)
-check_other (b ∷ m) h k = rw (ne_eqb b 0x61 k) refl
-
-pub check_ranges : (m : List ℕ) → Small m → (length m ≡ 0 → ⊥) → get_or m 0 0 ≡ 0x61 → counted (read_message m) ≡ more 0 (read_ranges (length m) start (drop 1 m))
-unfolding read_message
-check_ranges [] s h k = absurd (h refl)
+check_ranges [] s h k = absurd (omega arith)
 check_ranges (b ∷ m) s h k =
     rw (eq-eqb b 0x61 k)
     (more-none (read_ranges (length m) start m)
@@ -75,26 +71,22 @@ unfolding read_ranges
 check_end_lem zero n lower m i h = let e : n + 0 ≡ n = omega arith in rw (drop_of_length-le m h) (ap (λ n. read n []) e)
 check_end_lem (suc f) n lower m i h = let e : n + 0 ≡ n = omega arith in rw (drop_of_length-le m h) (ap (λ n. read n []) e)
 
--- n ranges were read, the next one is r
-module _ (m : List ℕ) (c : RangeCursor) (n : ℕ) (r : RangeRead) (inside : c.at < length m) (e : range_read m r ≡ read_range (lower_at c) (drop c.at m)) where
-  found : (x : Found) → r.found ≡ x → found_range x m r ≡ read_range (lower_at c) (drop c.at m)
-  found x h = ap (λ y. found_range y m r) (sym h) ∙ e
-
+-- n ranges were read, and the next read is r
+module _ (m : List ℕ) (c : RangeCursor) (n : ℕ) (inside : c.at < length m) where
   left : (1 ≤ length (drop c.at m)) × (length (drop c.at m) ≤ length m)
   left = rw (length-drop c.at m) (omega arith)
 
-  pub check_refused : (k : Refusal) → r.found ≡ Found.Refused k → more n (read_ranges (length m) (lower_at c) (drop c.at m)) ≡ refused (number_of k)
-  check_refused k h = refused_at_lem (length m) n (number_of k) (lower_at c) (drop c.at m) (found (Found.Refused k) h) left.0 left.1
+  pub check_refused : (k : Refusal) → ReadAt m c (Err k) → more n (read_ranges (length m) (lower_at c) (drop c.at m)) ≡ refused (number_of k)
+  check_refused k answer = refused_at_lem (length m) n (number_of k) (lower_at c) (drop c.at m) answer.0 left.0 left.1
 
-  pub check_on : Small m → RangePlaced c m r → r.found ≡ Found.Range
+  pub check_on : (r : RangeRead) → Small m → ReadAt m c (Ok r)
       → (length m - r.next.at < length m - c.at)
       × (more n (read_ranges (length m) (lower_at c) (drop c.at m)) ≡ more (n + 1) (read_ranges (length m) (lower_at r.next) (drop r.next.at m)))
-  check_on s q h =
+  check_on r s answer =
       let bytes = small_bytes (drop c.at m) (small-drop c.at m s) in
-      let p = rw h at q in
-      let same : lower_at r.next ≡ bound_of r.range.bound r.range.prefix = rw (p.3, p.4) refl in
-      let less = range_shorter (lower_at c) (drop c.at m) (range_of r.range m) (drop r.next.at m) bytes (sym (found Found.Range h)) in (
+      let same : lower_at r.next ≡ bound_of r.range.bound r.range.prefix = rw (answer.1.3, answer.1.4) refl in
+      let less = range_shorter (lower_at c) (drop c.at m) (range_of r.range m) (drop r.next.at m) bytes (sym answer.0) in (
         omega (arith, length-drop c.at m, length-drop r.next.at m),
-        read_at (length m) n (lower_at c) (drop c.at m) (range_of r.range m) (drop r.next.at m) bytes (found Found.Range h) left.0 left.1
+        read_at (length m) n (lower_at c) (drop c.at m) (range_of r.range m) (drop r.next.at m) bytes answer.0 left.0 left.1
             ∙ ap (λ b. more (n + 1) (read_ranges (length m) b (drop r.next.at m))) (sym same),
       )

@@ -35,9 +35,9 @@ pub mode_is : (n mode : ℕ) (l : List ℕ) {o : Outcome Payload} → n ≡ mode
 mode_is n mode l z f = rw z f
 
 -- 10: "A mode is above 2."
-pub mode_other : (n : ℕ) (l : List ℕ) → (n ≡ 0 → ⊥) → (n ≡ 1 → ⊥) → (n ≡ 2 → ⊥) → refused 10 ≡ read_of_mode n l
+pub mode_other : (n : ℕ) (l : List ℕ) → 2 < n → refused 10 ≡ read_of_mode n l
 unfolding read_of_mode
-mode_other zero l a b c = absurd (a refl)
-mode_other (suc zero) l a b c = absurd (b refl)
-mode_other (suc (suc zero)) l a b c = absurd (c refl)
-mode_other (suc (suc (suc n))) l a b c = refl
+mode_other zero l h = absurd (omega arith)
+mode_other (suc zero) l h = absurd (omega arith)
+mode_other (suc (suc zero)) l h = absurd (omega arith)
+mode_other (suc (suc (suc n))) l h = refl

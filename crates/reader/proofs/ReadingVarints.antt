@@ -1,7 +1,9 @@
 -- Varints at a place of a message.
 use Prim.Native.Nat.{ℕ, ◌+◌, ◌*◌, ◌%◌, ◌^◌, ◌<◌, ◌≤◌}
-use mathlib.Core.Path.{◌≡◌, refl}
+use mathlib.Core.Path.{◌≡◌, refl, sym, ◌∙◌}
 use mathlib.Core.List.{List}
+use native.Mathlib.Omega.{arith}
+use native.Mathlib.Decide.{dec_le}
 use native.Mathlib.Numerals.{add-one}
 use lib.ListN.{length, drop, get_or, drop_of_length-le}
 use lib.Seq.{drop-cons}
@@ -30,7 +32,7 @@ module _ (m : List ℕ) (i v : ℕ) where
   digits_more h p l = rw (drop-cons m i 0, add-one) (simp (lt-ltb _ _ p, le-ltb _ _ l))
 
 module _ (m : List ℕ) (i : ℕ) where
-  pub varint_end : length m ≤ i → read_varint (drop i m) ≡ refused 7
+  varint_end : length m ≤ i → read_varint (drop i m) ≡ refused 7
   unfolding read_varint
   varint_end h = rw drop_of_length-le refl
 
@@ -38,6 +40,14 @@ module _ (m : List ℕ) (i : ℕ) where
   unfolding read_varint
   varint_padded h e = rw (drop-cons m i 0) (simp (eq-eqb _ _ e))
 
-  pub varint_digits : i < length m → (get_or m i 0 ≡ 128 → ⊥) → read_varint (drop i m) ≡ read_digits 0 (drop i m)
+  varint_digits : i < length m → (get_or m i 0 ≡ 128 → ⊥) → read_varint (drop i m) ≡ read_digits 0 (drop i m)
   unfolding read_varint
   varint_digits h e = rw (drop-cons m i 0) (simp (ne_eqb _ _ e))
+
+  -- the digits of a varint that does not start with 80, and those of one that is not there
+  pub varint_begins : (i < length m → get_or m i 0 ≡ 128 → ⊥) → read_varint (drop i m) ≡ read_digits 0 (drop i m)
+  varint_begins h =
+      elim (dec_le (i + 1) (length m)) [
+        | yes k ↦ varint_digits (omega arith) (h (omega arith))
+        | no k ↦ varint_end (omega arith) ∙ sym (digits_end m i 0 (omega arith))
+      ]

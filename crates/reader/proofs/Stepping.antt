@@ -1,7 +1,9 @@
 -- Stepping through a message: where the ranges left can be read, so can the first of them, and the others behind it.
+use Rattle.std.proofs.Common.{Result, Ok, Err, IsOk}
+use Rattle.message.specs.declared.Refusal.{Refusal}
 use Prim.Native.Nat.{ℕ, zero, suc, ◌-◌, ◌≤◌, ◌<◌}
 use mathlib.Core.Path.{◌≡◌, refl, sym, ap, ◌∙◌}
-use mathlib.Core.List.{List, [], ◌∷◌, map}
+use mathlib.Core.List.{List, [], ◌∷◌}
 use native.Mathlib.Omega.{arith}
 use lib.Dec.{eqb, ltb}
 use lib.ListN.{length, take, drop, length-drop, drop_of_length-le}
@@ -13,10 +15,9 @@ use Rattle.message.specs.WellFormed.{All, Bytes, Rising}
 use Rattle.message.specs.Code.{bound_of, range_of}
 use Rattle.message.proofs.Exact.{differ, by_test, got, given, passed, bytes_take}
 use Rattle.message.proofs.Messages.{LawfulRange, exact_range, range_shorter, enough, ranges-back}
-use Rattle.reader.specs.Answers.{found_range, FoundPlaced, counted}
+use Rattle.reader.specs.Answers.{FoundPlaced, counted}
 use Rattle.reader.specs.Private.{lower_at, reading_at, ranges_of, ranges_at}
-use Rattle.reader.specs.Stepping.{starts, ReadAt, InTurn, left_at, Stepping}
-use Rattle.reader.specs.declared.range.Found.{Found}
+use Rattle.reader.specs.Stepping.{starts, ReadAt, InTurn, left_at, found_in, Stepping}
 use Rattle.reader.specs.declared.range.RangeCursor.{RangeCursor}
 use Rattle.reader.specs.declared.range.RangeRead.{RangeRead}
 
@@ -49,27 +50,11 @@ first_of (suc f) lower (b ∷ l) rs by h u e =
       more = same ∙ e₂ ∙ ap (read rs') none;
     }
 
--- ---- what the code read
-
-record Read (m : List ℕ) (r : RangeRead) (first : Range) (rest : List ℕ) : Type 0 where
-  range : first ≡ range_of r.range m
-  behind : rest ≡ drop r.next.at m
-  found : r.found ≡ Found.Range
-
-read_as : (m : List ℕ) (r : RangeRead) (first : Range) (rest : List ℕ) (x : Found) → r.found ≡ x → found_range x m r ≡ read first rest → Read m r first rest
-read_as m r first rest Found.Range f e = record {
-  range = given (λ (a : Range) (b : List ℕ). a ≡ range_of r.range m) e refl;
-  behind = given (λ (a : Range) (b : List ℕ). b ≡ drop r.next.at m) e refl;
-  found = f;
-}
-read_as m r first rest (Found.Refused k) f e = differ (cc)
-
 -- ---- one range more
 
 -- r, read at the cursor c, is the first of the ranges that are left there, and those behind it are left where it leaves the cursor
 pub record Next (m : List ℕ) (c : RangeCursor) (r : RangeRead) : Type 0 where
-  pub found : r.found ≡ Found.Range
-  pub placed : FoundPlaced Found.Range c m r
+  pub placed : FoundPlaced m r
   pub one : read_range (lower_at c) (drop c.at m) ≡ read (range_of r.range m) (drop r.next.at m)
   pub first : ranges_at m c ≡ range_of r.range m ∷ ranges_at m r.next
   pub reads : reading_at m r.next ≡ read (ranges_at m r.next) []
@@ -78,57 +63,61 @@ pub record Next (m : List ℕ) (c : RangeCursor) (r : RangeRead) : Type 0 where
   pub lawful : LawfulRange (lower_at c) (range_of r.range m)
 
 module _ (m : List ℕ) (c : RangeCursor) (bytes : Bytes m) (inside : c.at < length m) (whole : reading_at m c ≡ read (ranges_at m c) []) where
-  behind : Bytes (drop c.at m)
-  behind = (bytes_take c.at m bytes).1
+  rest-bytes : Bytes (drop c.at m)
+  rest-bytes = (bytes_take c.at m bytes).1
 
   left : (1 ≤ length (drop c.at m)) × (length (drop c.at m) ≤ length m)
   left = rw (length-drop c.at m) (omega arith)
 
   first-left : First (length m) (lower_at c) (drop c.at m) (ranges_at m c)
   unfolding reading_at
-  first-left = first_of (length m) (lower_at c) (drop c.at m) (ranges_at m c) behind left.0 left.1 whole
+  first-left = first_of (length m) (lower_at c) (drop c.at m) (ranges_at m c) rest-bytes left.0 left.1 whole
 
   some_left : 1 ≤ length (ranges_at m c)
   some_left = omega (arith, ap length first-left.is)
 
-  module _ (r : RangeRead) (answer : ReadAt m c r) where
-    got_it : Read m r first-left.first first-left.rest
-    got_it = read_as m r first-left.first first-left.rest r.found refl (answer.0 ∙ first-left.reads)
+  -- none is refused
+  pub reads_on : (r : Result RangeRead Refusal) → ReadAt m c r → IsOk r
+  reads_on (Ok r) answer = refl
+  reads_on (Err k) answer = differ (cc (answer.0, first-left.reads))
 
-    at_range : FoundPlaced Found.Range c m r
-    at_range = rw got_it.found at answer.1
-
-    reads_it : read_range (lower_at c) (drop c.at m) ≡ read (range_of r.range m) (drop r.next.at m)
-    reads_it = rw (got_it.range, got_it.behind) at first-left.reads
+  module _ (r : RangeRead) (answer : ReadAt m c (Ok r)) where
+    same : read (range_of r.range m) (drop r.next.at m) ≡ read first-left.first first-left.rest
+    same = answer.0 ∙ first-left.reads
 
     same-upper : lower_at r.next ≡ bound_of r.range.bound r.range.prefix
-    same-upper = rw (at_range.3, at_range.4) refl
+    same-upper = rw (answer.1.3, answer.1.4) refl
+
+    got_range : first-left.first ≡ range_of r.range m
+    got_range = given (λ (a : Range) (b : List ℕ). a ≡ range_of r.range m) same refl
+
+    got_rest : first-left.rest ≡ drop r.next.at m
+    got_rest = given (λ (a : Range) (b : List ℕ). b ≡ drop r.next.at m) same refl
 
     others : reading_at m r.next ≡ read first-left.others []
     unfolding reading_at
-    others = rw (same-upper, ← got_it.behind) (rw got_it.range at first-left.more)
+    others = rw (same-upper, ← got_rest) (rw got_range at first-left.more)
 
     the_others : ranges_at m r.next ≡ first-left.others
     the_others = ap ranges_of others
 
     shorter : c.at < r.next.at
     shorter =
-        let less = (range_shorter (lower_at c) (drop c.at m) (range_of r.range m) (drop r.next.at m) behind reads_it).0 in
-        omega (arith, length-drop c.at m, length-drop r.next.at m, at_range.2)
+        let less = (range_shorter (lower_at c) (drop c.at m) (range_of r.range m) (drop r.next.at m) rest-bytes (sym answer.0)).0 in
+        omega (arith, length-drop c.at m, length-drop r.next.at m, answer.1.2)
 
     next_of : Next m c r
     next_of = record {
-      found = got_it.found;
-      placed = at_range;
-      one = reads_it;
-      first = first-left.is ∙ ap (λ (a : Range). a ∷ first-left.others) got_it.range ∙ ap (λ (a : List Range). range_of r.range m ∷ a) (sym the_others);
+      placed = answer.1;
+      one = sym answer.0;
+      first = first-left.is ∙ ap (λ (a : Range). a ∷ first-left.others) got_range ∙ ap (λ (a : List Range). range_of r.range m ∷ a) (sym the_others);
       reads = others ∙ ap (λ (a : List Range). read a []) (sym the_others);
       moved = shorter;
       upper = same-upper;
-      lawful = ((exact_range (lower_at c)).spells (drop c.at m) (range_of r.range m) (drop r.next.at m) behind reads_it).sound;
+      lawful = ((exact_range (lower_at c)).spells (drop c.at m) (range_of r.range m) (drop r.next.at m) rest-bytes (sym answer.0)).sound;
     }
 
-pub next-range : (m : List ℕ) (c : RangeCursor) (r : RangeRead) → Bytes m → c.at < length m → reading_at m c ≡ read (ranges_at m c) [] → ReadAt m c r → Next m c r
+pub next-range : (m : List ℕ) (c : RangeCursor) (r : RangeRead) → Bytes m → c.at < length m → reading_at m c ≡ read (ranges_at m c) [] → ReadAt m c (Ok r) → Next m c r
 next-range m c r bytes inside whole answer = next_of m c bytes inside whole r answer
 
 -- ---- the first range, and the end
@@ -167,9 +156,9 @@ ranges_rise m c bytes whole = (ranges-back (length m) (lower_at c) (drop c.at m)
 -- ---- reads in turn
 
 -- what they come to from any cursor, `ranges` being those that are left there
-record Gives (m : List ℕ) (c : RangeCursor) (ranges : List Range) (reads : List RangeRead) : Type 0 where
-  found : All (λ (r : RangeRead). r.found ≡ Found.Range) reads
-  in_order : map (λ (r : RangeRead). range_of r.range m) reads ≡ take (length reads) ranges
+record Gives (m : List ℕ) (c : RangeCursor) (ranges : List Range) (reads : List (Result RangeRead Refusal)) : Type 0 where
+  found : All (λ (r : Result RangeRead Refusal). IsOk r) reads
+  in_order : found_in m reads ≡ take (length reads) ranges
   others : ranges_at m (left_at c reads) ≡ drop (length reads) ranges
   whole : reading_at m (left_at c reads) ≡ read (ranges_at m (left_at c reads)) []
   inside : (left_at c reads).at ≤ length m
@@ -183,26 +172,27 @@ at_end m c bytes whole inside none =
     by_test (ltb c.at (length m)) (λ t. absurd (omega (arith, some_left m c bytes (ltb-true c.at (length m) t) whole)))
     (λ t. omega (arith, ltb-false c.at (length m) t))
 
-gives : (m : List ℕ) (c : RangeCursor) (reads : List RangeRead) → Bytes m → reading_at m c ≡ read (ranges_at m c) [] → c.at ≤ length m → InTurn m c reads → length reads ≤ length (ranges_at m c)
-    → Gives m c (ranges_at m c) reads
+gives : (m : List ℕ) (c : RangeCursor) (reads : List (Result RangeRead Refusal)) → Bytes m → reading_at m c ≡ read (ranges_at m c) [] → c.at ≤ length m → InTurn m c reads
+    → length reads ≤ length (ranges_at m c) → Gives m c (ranges_at m c) reads
 gives m c [] bytes whole inside turn few = record { found = tt; in_order = refl; others = refl; whole = whole; inside = inside }
-gives m c (r ∷ reads) bytes whole inside turn few =
+gives m c (Ok r ∷ reads) bytes whole inside turn few =
     let n = next-range m c r bytes (before-end m c (omega arith)) whole turn.0 in
     let rest = gives m r.next reads bytes n.reads n.placed.2 turn.1 (omega (arith, ap length n.first)) in
     rw n.first (record {
-      found = (n.found, rest.found);
+      found = (refl, rest.found);
       in_order = ap (λ (l : List Range). range_of r.range m ∷ l) rest.in_order;
       others = rest.others;
       whole = rest.whole;
       inside = rest.inside;
     })
+gives m c (Err k ∷ reads) bytes whole inside turn few = let h = reads_on m c bytes (before-end m c (omega arith)) whole (Err k) turn.0 in differ (cc)
 
 starts-inside : (m : List ℕ) (rs : List Range) → read_message m ≡ read rs [] → starts.at ≤ length m
 unfolding read_message starts
 starts-inside [] rs e = differ (cc)
 starts-inside (b ∷ m) rs e = omega arith
 
-gives_all : (m : List ℕ) (ranges : List Range) (reads : List RangeRead) → Bytes m → read_message m ≡ read ranges [] → InTurn m starts reads → length reads ≤ length ranges
+gives_all : (m : List ℕ) (ranges : List Range) (reads : List (Result RangeRead Refusal)) → Bytes m → read_message m ≡ read ranges [] → InTurn m starts reads → length reads ≤ length ranges
     → Gives m starts ranges reads
 gives_all m ranges reads bytes e turn few =
     let whole = reading-starts m ranges bytes e in

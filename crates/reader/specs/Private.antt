@@ -1,31 +1,26 @@
 -- For contracts of private functions, and of functions that only our own crates call: the ranges that are left at a cursor.
-use Rattle.std.specs.Prelude.{ℕ, ◌+◌, ◌≤◌, ◌≡◌, List, [], length, take, drop}
-use Rattle.message.specs.Reader.{Outcome, read, refused, after, give}
-use Rattle.message.specs.Code.{number_of, bound_of}
+use Rattle.std.specs.Prelude.{Result, IfOk, ℕ, ◌≤◌, ◌≡◌, List, [], length, drop}
+use denote.Ref.{Bor}
+use Rattle.message.specs.Reader.{Outcome, read, refused, after}
+use Rattle.message.specs.Code.{bound_of}
 use Rattle.message.specs.Bound.{Bound, time, above, read_bound}
-use Rattle.message.specs.Message.{Payload, Range, range, read_ranges}
-use Rattle.reader.specs.Answers.{bound_read}
-use Rattle.reader.specs.declared.bound.PrefixRead.{PrefixRead}
-use Rattle.reader.specs.declared.bound.BoundRead.{BoundRead}
+use Rattle.message.specs.Message.{Range, read_ranges}
+use Rattle.message.specs.declared.Refusal.{Refusal}
+use Rattle.reader.specs.Answers.{read_by, bound_read}
+use Rattle.reader.specs.declared.varint.Read.{Read}
+use Rattle.reader.specs.declared.bound.UpperBound.{UpperBound}
 use Rattle.reader.specs.declared.range.RangeCursor.{RangeCursor}
 
--- a prefix that was read, its place and its length
-abbrev pub prefix_read : List ℕ → PrefixRead → Outcome (List ℕ)
-prefix_read m (PrefixRead.Prefix at len c) = read (take len (drop at m)) (drop c.at m)
-prefix_read m (PrefixRead.Refused k) = refused (number_of k)
+-- a prefix that was read
+abbrev pub prefix_read : List ℕ → Result (Read (Bor (List ℕ))) Refusal → Outcome (List ℕ)
+prefix_read m r = read_by (λ p. p.now) m r
 
--- the prefix stands before the cursor
-abbrev pub PrefixPlaced : ℕ → List ℕ → PrefixRead → Type 0
-PrefixPlaced most m (PrefixRead.Prefix at len c) = (at + len ≡ c.at) × (c.at ≤ length m) × (len ≤ most)
-PrefixPlaced most m (PrefixRead.Refused k) = Unit {0}
+abbrev pub PrefixPlaced : ℕ → List ℕ → Result (Read (Bor (List ℕ))) Refusal → Type 0
+PrefixPlaced most m r = IfOk r (λ o. (o.next.at ≤ length m) × (length o.value.now ≤ most))
 
 -- compared with any lower bound of the time `last`, it is the bound that is read behind it
-abbrev pub BeforeOrder : ℕ → List ℕ → ℕ → BoundRead → Type 0
+abbrev pub BeforeOrder : ℕ → List ℕ → ℕ → Result (Read UpperBound) Refusal → Type 0
 BeforeOrder last m at r = (lower : Bound) → time lower ≡ last → after (bound_read m r) (above lower) ≡ read_bound lower (drop at m)
-
--- a bound with the payload that was read behind it
-abbrev pub with_payload : Bound → Outcome Payload → Outcome Range
-with_payload u o = after o (λ p. give (range u p))
 
 -- ---- at a cursor
 

@@ -1,4 +1,4 @@
-// The message layer, second crate: the reader. A cursor steps through a message; each read takes it and gives it back moved.
+// The message layer, second crate: the reader. A cursor steps through a message; each read takes it and gives it back moved, with what was read.
 #![tactic(auto)]
 
 pub mod bound;

@@ -5,12 +5,8 @@ ghost use Rattle.std.specs.Prelude.{◌+◌, ◌*◌, ◌≡◌, drop};
 pub fn listed_id(m: &[u8], at: usize, i: usize) -> &[u8]
     ensures { result.now ≡ drop (at + i * 32) m.now }
 {
-    if m.len() < at {
-        return &m[..0];
+    if m.len() < at || (m.len() - at) / 32 < i {
+        return &[];
     }
-    if (m.len() - at) / 32 < i {
-        return &m[..0];
-    }
-    let first = at + i * 32;
-    &m[first..]
+    &m[at + i * 32..]
 }

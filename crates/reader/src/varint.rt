@@ -11,48 +11,34 @@ pub struct Cursor {
     pub at: usize,
 }
 
+// A value that was read, and the cursor behind it.
 #[derive(Clone, Copy)]
-pub enum VarintRead {
-    Value { value: u64, next: Cursor },
-    Refused { refusal: Refusal },
+pub struct Read<T> {
+    pub value: T,
+    pub next: Cursor,
 }
 
 impl Cursor {
-    pub fn varint(self, m: &[u8]) -> VarintRead
+    pub fn varint(self, m: &[u8]) -> Result<Read<u64>, Refusal>
         ensures { (varint_read m.now result ≡ read_varint (drop self.at m.now)) × VarintPlaced m.now result }
     {
-        let at = self.at;
-        if m.len() <= at {
-            return VarintRead::Refused {
-                refusal: Refusal::Truncated,
-            };
+        if m.get(self.at) == Some(&128) {
+            return Err(Refusal::BadVarint);
         }
-        if m[at] == 128 {
-            return VarintRead::Refused {
-                refusal: Refusal::BadVarint,
-            };
-        }
-        let mut v: u64 = 0;
-        let mut i = at;
-        while i < m.len() {
-            let b = m[i] as u64;
-            // v * 128 and any digit more would pass 2^64 - 1
-            if 144115188075855871 < v {
-                return VarintRead::Refused {
-                    refusal: Refusal::BadVarint,
-                };
+        let mut value: u64 = 0;
+        for i in self.at..m.len() {
+            // one digit more would pass 2^64 - 1
+            if u64::MAX / 128 < value {
+                return Err(Refusal::BadVarint);
             }
-            v = v * 128 + b % 128;
-            i += 1;
-            if b < 128 {
-                return VarintRead::Value {
-                    value: v,
-                    next: Cursor { at: i },
-                };
+            value = value * 128 + (m[i] % 128) as u64;
+            if m[i] < 128 {
+                return Ok(Read {
+                    value,
+                    next: Cursor { at: i + 1 },
+                });
             }
         }
-        VarintRead::Refused {
-            refusal: Refusal::Truncated,
-        }
+        Err(Refusal::Truncated)
     }
 }

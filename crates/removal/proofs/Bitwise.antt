@@ -4,11 +4,15 @@ use mathlib.Core.Path.{◌≡◌, refl, sym, ap, ◌∙◌}
 use mathlib.Core.List.{List, [], ◌∷◌, ◌++◌, append_assoc}
 use native.Mathlib.Omega.{arith}
 use native.Mathlib.Nat.{div-one, one-mul, pow-suc}
-use lib.Dec.{ltb}
+use lib.Bits.{bit_and}
+use lib.Dec.{eqb, ltb}
 use lib.ListN.{length, get_or, set, replicate, length-append, get_or-append}
 use lib.Pow.{shl_exact, shr-shr}
-use lib.Seq.{get_or-append-add, set-append_left}
-use borrow.Author.Tests.{ltb-true, ltb-false}
+use lib.Seq.{get_or-append-add, set-append_left, set-get_or}
+use borrow.Author.Tests.{ltb-true, ltb-false, eqb-true, eqb-false}
+use Rattle.std.specs.Int.Bits.{bit_or, or_add_and}
+use Rattle.std.proofs.lemmas.Nat.{or_disjoint}
+use Rattle.std.proofs.lemmas.Nat.Bits.{and_pow}
 use Rattle.message.proofs.Exact.{by_test}
 use Rattle.removal.specs.Removing.{bits, bits_in}
 
@@ -43,14 +47,12 @@ bit_set (suc n) (suc j) b h e =
     let half : (b + 2 ^ suc j) / 2 ≡ b / 2 + 2 ^ j = omega arith in
     rw (low, half) (ap (λ (l : List ℕ). b % 2 ∷ l) (bit_set n j (b / 2) (omega arith) (rw (half_power j b) e)))
 
-pub bit_fits : (n j b : ℕ) → j < n → b < 2 ^ n → b / 2 ^ j % 2 ≡ 0 → b + 2 ^ j < 2 ^ n
-bit_fits zero j b h l e = absurd (omega arith)
-bit_fits (suc n) zero b h l e = let even : b % 2 ≡ 0 = rw (div-one b) at e in let p = pow-suc 2 n in omega arith
-bit_fits (suc n) (suc j) b h l e =
-    let p = pow-suc 2 n in
-    let q = pow-suc 2 j in
-    let r = bit_fits n j (b / 2) (omega arith) (omega arith) (rw (half_power j b) e) in
-    omega arith
+-- a bit that is set is there, or its power is added
+or_power : (b j : ℕ) → b / 2 ^ j % 2 ≡ 0 → bit_or b (2 ^ j) ≡ b + 2 ^ j
+or_power b j e = or_disjoint b (2 ^ j) (and_pow b j ∙ rw e (omega arith))
+
+or_set : (b j : ℕ) → b / 2 ^ j % 2 ≡ 1 → bit_or b (2 ^ j) ≡ b
+or_set b j e = let p : bit_and b (2 ^ j) ≡ 1 * 2 ^ j = and_pow b j ∙ rw e refl in omega (arith, or_add_and b (2 ^ j), p)
 
 -- a power that has room in a byte is not cut off
 pub power_fits : (j : ℕ) → j < 8 → 1 * 2 ^ j % 256 ≡ 2 ^ j
@@ -95,7 +97,7 @@ byte_bit (b ∷ bs) k h =
     let r : k % 8 ≡ (k - 8) % 8 = omega arith in
     ap (λ (x : ℕ). get_or (bits 8 b ++ bits_in bs) x 0) e ∙ get_or-append-add (bits 8 b) (bits_in bs) (k - 8) 0 ∙ byte_bit bs (k - 8) (omega arith) ∙ rw (q, r) refl)
 
-pub byte_set : (bs : List ℕ) (k : ℕ) → k < length bs * 8 → get_or bs (k / 8) 0 / 2 ^ (k % 8) % 2 ≡ 0
+byte_set : (bs : List ℕ) (k : ℕ) → k < length bs * 8 → get_or bs (k / 8) 0 / 2 ^ (k % 8) % 2 ≡ 0
     → bits_in (set bs (k / 8) (get_or bs (k / 8) 0 + 2 ^ (k % 8))) ≡ set (bits_in bs) k 1
 unfolding bits_in
 byte_set [] k h z = absurd (omega arith)
@@ -113,3 +115,14 @@ byte_set (b ∷ bs) k h z =
     rw (q, r)
     (ap (λ (x : List ℕ). bits 8 b ++ x) (byte_set bs (k - 8) (omega arith) (rw (q, r) at z))
     ∙ sym (set-append-add (bits 8 b) (bits_in bs) (k - 8) 1) ∙ ap (λ (x : ℕ). set (bits 8 b ++ bits_in bs) x 1) (sym e)))
+
+pub bit_set_in : (bs : List ℕ) (k : ℕ) → k < length bs * 8 → bits_in (set bs (k / 8) (bit_or (get_or bs (k / 8) 0) (2 ^ (k % 8)))) ≡ set (bits_in bs) k 1
+bit_set_in bs k h =
+    let b = get_or bs (k / 8) 0 in
+    by_test (eqb (b / 2 ^ (k % 8) % 2) 0)
+    (λ e. let z = eqb-true _ _ e in rw (or_power b (k % 8) z) (byte_set bs k h z))
+    (λ e.
+    let n = eqb-false _ _ e in
+    let one : b / 2 ^ (k % 8) % 2 ≡ 1 = omega arith in
+    rw (or_set b (k % 8) one, set-get_or bs (k / 8) 0)
+    (sym (set-get_or (bits_in bs) k 0) ∙ ap (λ (v : ℕ). set (bits_in bs) k v) (byte_bit bs k h ∙ one)))

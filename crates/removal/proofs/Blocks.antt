@@ -1,9 +1,8 @@
 -- Marks window by window, and how many have room.
-use Prim.Native.Nat.{ℕ, ◌+◌, ◌-◌, ◌*◌, ◌/◌, ◌≤◌, ◌<◌}
+use Prim.Native.Nat.{ℕ, ◌+◌, ◌-◌, ◌*◌, ◌/◌, ◌≤◌, ◌<◌, min}
 use mathlib.Core.Path.{◌≡◌, refl, sym, ap, ◌∙◌}
 use mathlib.Core.Bool.{true, cond}
 use mathlib.Core.List.{List, ◌++◌, map-append}
-use mathlib.Core.Logic.{◌⊎◌, ⊎_elim}
 use native.Mathlib.Omega.{arith}
 use lib.ListN.{length, take, drop, length-append, take-append-drop}
 use lib.Seq.{length-take-le, take-append-add, take_at}
@@ -16,16 +15,6 @@ use Rattle.ends.proofs.Reports.{numbers}
 use Rattle.removal.specs.Removing.{bits_in, named, present}
 use Rattle.removal.proofs.Bitwise.{bits_in_length, bits_in_append}
 use Rattle.removal.proofs.Surveying.{surveyed_none, found-next}
-
--- ---- how many bits have room: r of so many, in so many bytes
-
-module _ (r count bytes : ℕ) (fits : (r ≡ count) ⊎ (r ≡ bytes * 8)) where
-  pub some_fit : 0 < count → 0 < bytes → 0 < r
-  some_fit h g = ⊎_elim (λ e. omega arith) (λ e. omega arith) fits
-
-  -- they have no room all at once
-  pub not_all_fit : r < count → bytes * 8 < count
-  not_all_fit h = ⊎_elim (λ e. omega arith) (λ e. omega arith) fits
 
 -- ---- the bits of bytes behind one another
 
@@ -67,14 +56,14 @@ module _ (us : List (List ℕ)) (list : List ℕ) (count : ℕ) (marks : List �
   marking_starts = record { few = omega arith; whole = λ h. refl; marked = refl; in_list = (surveyed_none us list).in_list }
 
   module _ (found lo : ℕ) (s : Marking us list count marks found lo) (more : lo < count) (rises : rising (numbers (ids_in count list)) ≡ true) (room : count ≤ length marks * 8) where
-    pub marking_goes : (n hints : ℕ) → n ≤ count - lo → (n ≡ count - lo) ⊎ (n ≡ hints * 8) → (r : ℕ) (last : List ℕ)
+    pub marking_goes : (n hints : ℕ) → n ≡ min (count - lo) (hints * 8) → (r : ℕ) (last : List ℕ)
         → r ≡ length (present us (ids_in n (rest (lo * 32) list))) → take n (bits_in last) ≡ named us (ids_in n (rest (lo * 32) list))
         → Marking us list count (joined (lo / 8) marks last) (found + r) (lo + n)
-    marking_goes n hints h fits r last e f =
+    marking_goes n hints fits r last e f =
         let at8 = s.whole more in
         record {
           few = omega arith;
-          whole = λ l. ⊎_elim (λ z. absurd (omega arith)) (λ z. omega arith) fits;
+          whole = λ l. omega arith;
           marked = bits-joined marks last lo n at8 (omega arith) ∙ rw (s.marked, f, rest_is (lo * 32) list) (sym (named-next us list lo n));
           in_list = found-next us list count lo n rises (omega arith) found r s.in_list (rw (rest_is (lo * 32) list) at e);
         }

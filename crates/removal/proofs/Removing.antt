@@ -8,7 +8,8 @@ use native.Mathlib.Omega.{arith}
 use native.Mathlib.Numerals.{add-one}
 use lib.Dec.{eqb, ltb}
 use lib.ListN.{length, take, drop, get_or, set, replicate, length-map, length-append, length-drop, take-append-drop, get_or-map}
-use lib.Seq.{take-suc, take_at, drop_at, take-set-lt, length-take-le, drop-drop, get_or-drop, paste, paste-suc, length_paste_head, get_or-append-add}
+use lib.Seq.{take-suc, take_at, drop_at, take-set-lt, length-take-le, drop-drop}
+use Rattle.std.specs.List.{copy_within}
 use borrow.Author.Tests.{ne_eqb, eq-eqb, ltb-true, ltb-false}
 use Rattle.message.specs.Bound.{big_endian}
 use Rattle.message.specs.WellFormed.{All, Bytes, Sized}
@@ -191,6 +192,16 @@ module _ (ds : List (List ℕ)) (ids : List ℕ) (count : ℕ) where
       let none = h j (omega arith) (omega arith) in
       rw e (found_past marks found n (j + 1) (λ i l g. h i (omega arith) (omega arith)) (found-other marks found j f marks none (f.marked ∙ missing (id_of ids j) (ids_in j ids) ds none)))
 
+-- those whose first words lie outside of the list's
+pub found-outside : (list ids : List ℕ) (count low high : ℕ) → 0 < count → rising (numbers (ids_in count list)) ≡ true → low ≡ big_endian 8 list → high ≡ big_endian 8 (drop ((count - 1) * 32) list)
+    → Small list → Small ids → (marks : List ℕ) (found j r : ℕ) → j ≤ r → ((i : ℕ) → j ≤ i → i < r → Outside low high (big_endian 8 (drop (i * 32) ids)))
+    → Found (ids_in count list) ids marks count found j → Found (ids_in count list) ids marks count found r
+found-outside list ids count low high some rises first last small smalls marks found j r h out f =
+    let e : j + (r - j) ≡ r = omega arith in
+    rw e at
+    (found_past (ids_in count list) ids count marks found (r - j) j
+    (λ i l g. word_outside list count (drop (i * 32) ids) rises some small (small-drop (i * 32) ids smalls) (rw (← first, ← last) (out i l (omega arith)))) f)
+
 -- ---- the marks kept or not
 
 pub unmarked-last : (ms : List ℕ) (ds : List (List ℕ)) (m : ℕ) (d : List ℕ) → length ms ≡ length ds
@@ -271,39 +282,12 @@ module _ (s : List ℕ) (a : ℕ) (U : List (List ℕ)) (b : ℕ) (ends : b ≡ 
       e ∙ rw (shown-front, shown-behind (b + 32) (omega arith), bytes, long, behind)
       (append_assoc (take a s) (flatten U) (x ++ drop (b + 32) s) ∙ ap (λ (l : List ℕ). take a s ++ l) (sym (append_assoc (flatten U) x (drop (b + 32) s))))
 
--- ---- 32 bytes copied to a place before them, or to their own
+-- ---- 32 bytes copied
 
--- one more byte is copied, where it is read as it was
-copied-by : (s : List ℕ) (from to i : ℕ) → to ≤ from → from + 32 ≤ length s → i < 32 → (t : List ℕ) → t ≡ paste s to (drop from s) i
-    → get_or t (from + i) 0 ≡ get_or s (from + i) 0 → set t (to + i) (get_or t (from + i) 0) ≡ paste s to (drop from s) (i + 1)
-copied-by s from to i h g l t e byte =
-    let n : i + 1 ≡ suc i = omega arith in
-    rw (byte, e, n, ← get_or-drop from s i 0) (paste-suc s to (drop from s) i 0 (omega arith) (omega (arith, length-drop from s)))
-
-read-before : (s : List ℕ) (from to i : ℕ) → to + 32 ≤ from → from + 32 ≤ length s → i < 32 → get_or (paste s to (drop from s) i) (from + i) 0 ≡ get_or s (from + i) 0
-read-before s from to i h g l =
-    let P : List ℕ = take to s ++ take i (drop from s) in
-    let front : length (take to s ++ take i (drop from s)) ≡ to + i = length_paste_head s to (drop from s) i (omega arith) (omega (arith, length-drop from s)) in
-    let k : from + i ≡ length (take to s ++ take i (drop from s)) + (from - to) = omega arith in
-    let m : to + i + (from - to) ≡ from + i = omega arith in
-    ap (λ (n : ℕ). get_or (paste s to (drop from s) i) n 0) k
-    ∙ get_or-append-add (take to s ++ take i (drop from s)) (drop (to + i) s) (from - to) 0
-    ∙ get_or-drop (to + i) s (from - to) 0
-    ∙ ap (λ (n : ℕ). get_or s n 0) m
-
-copied_self : (s : List ℕ) (from i : ℕ) → paste s from (drop from s) i ≡ s
-copied_self s from i =
-    append_assoc (take from s) (take i (drop from s)) (drop (from + i) s)
-    ∙ rw (← drop-drop i from s, take-append-drop i (drop from s)) (take-append-drop from s)
-
-pub copied_more : (s : List ℕ) (from to i : ℕ) → to ≤ from → (to < from → to + 32 ≤ from) → from + 32 ≤ length s → i < 32 → (t : List ℕ) → t ≡ paste s to (drop from s) i
-    → set t (to + i) (get_or t (from + i) 0) ≡ paste s to (drop from s) (i + 1)
-copied_more s from to i h f g l t e =
-    by_test (ltb to from)
-    (λ p. copied-by s from to i h g l t e (ap (λ (t : List ℕ). get_or t (from + i) 0) e ∙ read-before s from to i (f (ltb-true to from p)) g l))
-    (λ p. let q : to ≡ from = let z = ltb-false to from p in omega arith in
-    let same : paste s to (drop from s) i ≡ s = rw q (copied_self s from i) in
-    copied-by s from to i h g l t e (ap (λ (t : List ℕ). get_or t (from + i) 0) (e ∙ same)))
+pub copied : (s t : List ℕ) (from end to : ℕ) → end ≡ from + 32 → t ≡ copy_within s from end to → t ≡ take to s ++ (take 32 (drop from s) ++ drop (to + 32) s)
+copied s t from end to h e =
+    let n : end - from ≡ 32 = omega arith in
+    rw n at e ∙ append_assoc (take to s) (take 32 (drop from s)) (drop (to + 32) s)
 
 -- ---- the ids of a window without a mark, moved to the front
 

@@ -1,5 +1,5 @@
 // Marks of one bit each, eight to a byte.
-ghost use Rattle.std.specs.Prelude.{◌*◌, ◌≤◌, ◌<◌, ◌≡◌, ◌⊎◌, length, take, get_or, set};
+ghost use Rattle.std.specs.Prelude.{◌*◌, ◌≤◌, ◌<◌, ◌≡◌, min, length, take, get_or, set};
 ghost use Rattle.ends.specs.Opener.{ones};
 ghost use Rattle.removal.specs.Removing.{bits_in};
 
@@ -16,11 +16,7 @@ pub(crate) fn set_bit(marks: &mut [u8], k: usize)
     requires { k < length marks.old * 8 }
     ensures { bits_in marks.new ≡ set (bits_in marks.old) k 1 }
 {
-    if bit(marks, k) == 1 {
-        return;
-    }
-    let at = k / 8;
-    marks[at] += 1u8 << (k % 8);
+    marks[k / 8] |= 1 << (k % 8);
 }
 
 // How many of the first `count` bits are 1.
@@ -29,22 +25,17 @@ pub(crate) fn count_bits(marks: &[u8], count: usize) -> usize
     ensures { result ≡ ones (take count (bits_in marks.now)) }
 {
     let mut sum = 0;
-    let mut k = 0;
-    while k < count {
+    for k in 0..count {
         if bit(marks, k) == 1 {
             sum += 1;
         }
-        k += 1;
     }
     sum
 }
 
 // How many of so many bits have room in so many bytes.
 pub(crate) fn fitting(count: usize, bytes: usize) -> usize
-    ensures { (result ≤ count) × (result ≤ bytes * 8) × ((result ≡ count) ⊎ (result ≡ bytes * 8)) }
+    ensures { result ≡ min count (bytes * 8) }
 {
-    if count / 8 < bytes {
-        return count;
-    }
-    bytes * 8
+    count.min(bytes.saturating_mul(8))
 }

@@ -59,8 +59,7 @@ fn survey_blocks(
     let mut lo = 0;
     while lo < size {
         let count = fitting(size - lo, marks.len());
-        let start = lo * 32;
-        let block = survey_block(&list[start..], count, ids, m, ends, marks);
+        let block = survey_block(&list[lo * 32..], count, ids, m, ends, marks);
         found += block.found;
         left += block.left;
         lo += count;
@@ -82,37 +81,24 @@ pub fn survey(
     ensures marked { Marked (ids_in m ids.now) list.now size marks.new }
 {
     if fitting(size, marks.len()) < size {
-        return survey_blocks(list, size, ids, m, ends, marks);
-    }
-    survey_block(list, size, ids, m, ends, marks)
-}
-
-// The 32 bytes at place `from`, copied to place `to`: that place, or one before all of them.
-fn copy_id(list: &mut [u8], from: usize, to: usize)
-    requires { (to ≤ from) × (to < from → to + 32 ≤ from) × (from + 32 ≤ length list.old) }
-    ensures { list.new ≡ take to list.old ++ (take 32 (drop from list.old) ++ drop (to + 32) list.old) }
-{
-    let mut i = 0;
-    while i < 32 {
-        list[to + i] = list[from + i];
-        i += 1;
+        survey_blocks(list, size, ids, m, ends, marks)
+    } else {
+        survey_block(list, size, ids, m, ends, marks)
     }
 }
 
 // Of the `count` ids from place `lo` on, those whose mark is 0 move to place `kept` and on; how many ids there are then up to them.
-fn keep_unmarked(list: &mut [u8], kept: usize, lo: usize, count: usize, marks: &[u8]) -> usize
+fn keep_unmarked(list: &mut [u8], mut kept: usize, lo: usize, count: usize, marks: &[u8]) -> usize
     requires { (kept ≤ lo) × ((lo + count) * 32 ≤ length list.old) × (count ≤ length marks.now * 8) }
     ensures value { result ≡ kept + length (unmarked (take count (bits_in marks.now)) (ids_in count (drop (lo * 32) list.old))) }
     ensures list_after { list.new ≡ take (kept * 32) list.old ++ overwrite (flatten (unmarked (take count (bits_in marks.now)) (ids_in count (drop (lo * 32) list.old)))) (drop (kept * 32) list.old) }
 {
-    let mut kept = kept;
-    let mut k = 0;
-    while k < count {
+    for k in 0..count {
         if bit(marks, k) == 0 {
-            copy_id(list, (lo + k) * 32, kept * 32);
+            let from = (lo + k) * 32;
+            list.copy_within(from..from + 32, kept * 32);
             kept += 1;
         }
-        k += 1;
     }
     kept
 }
@@ -132,8 +118,7 @@ fn keep_in_block(
     ensures value { result ≡ kept + length (without (ids_in m ids.now) (ids_in count (drop (lo * 32) list.old))) }
     ensures list_after { list.new ≡ take (kept * 32) list.old ++ overwrite (flatten (without (ids_in m ids.now) (ids_in count (drop (lo * 32) list.old)))) (drop (kept * 32) list.old) }
 {
-    let start = lo * 32;
-    mark_all(&list[start..], count, ids, m, ends, marks);
+    mark_all(&list[lo * 32..], count, ids, m, ends, marks);
     keep_unmarked(list, kept, lo, count, marks)
 }
 
@@ -174,7 +159,8 @@ pub fn take_out(
     ensures list_after { list.new ≡ overwrite (flatten (without (ids_in m ids.now) (ids_in size list.old))) list.old }
 {
     if fitting(size, marks.len()) < size {
-        return take_out_blocks(list, size, ids, m, ends, marks);
+        take_out_blocks(list, size, ids, m, ends, marks)
+    } else {
+        keep_unmarked(list, 0, 0, size, marks)
     }
-    keep_unmarked(list, 0, 0, size, marks)
 }

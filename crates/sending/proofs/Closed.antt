@@ -27,10 +27,11 @@ use Rattle.table.specs.Table.{Table, items}
 use Rattle.ends.specs.Lists.{overwrite}
 use Rattle.limit.specs.Limit.{bytes, below_least, sent_message}
 use Rattle.limit.proofs.Sizes.{sent-fits}
-use Rattle.shorten.specs.Private.{closing_ranges, Closes}
+use Rattle.shorten.specs.Private.{Stopped, closing_ranges, Closes}
+use Rattle.shorten.specs.declared.Stop.{Stop}
 use Rattle.shorten.specs.declared.Closing.{Closing}
 use Rattle.shorten.proofs.Fitting.{taken-room}
-use Rattle.sending.proofs.Sending.{lay-length}
+use Rattle.sending.proofs.Sending.{lay-length, some_byte}
 use Rattle.sending.proofs.Halts.{Halt, lawful-moved, laid-length, halts, halts_out, start-lower, at_start, no-room-left}
 use Rattle.sending.proofs.Passes.{one_stop}
 
@@ -62,10 +63,11 @@ module _ (writing : Bool) where
     passed : ((hand_over writing (before c.writer o) p.handed).verdict ≡ taken) × Follows (k.begun ++ meant p.handed) (hand_over writing (before c.writer o) p.handed).writer
     passed = passes k.begun c.writer p.handed p.rest o k.follows k.lawful (rw p.means k.rising) p.fit (rw (p.means, ← sent) room)
 
+    pub closed-taken : t.verdict ≡ taken
+    closed-taken = ap (λ (s : State). s.verdict) p.leads ∙ passed.0
+
     all : meant p.handed ≡ closing_ranges T c
-    all =
-        let v : t.verdict ≡ taken = ap (λ (s : State). s.verdict) p.leads ∙ passed.0 in
-        sym (append-nil (meant p.handed)) ∙ ap (λ (l : List Range). meant p.handed ++ l) (sym (p.whole v)) ∙ p.means
+    all = sym (append-nil (meant p.handed)) ∙ ap (λ (l : List Range). meant p.handed ++ l) (sym (p.whole closed-taken)) ∙ p.means
 
     -- the writer stands behind what is sent
     pub closed-behind : t.writer.at ≡ length (sent_message (bytes n) (items T) whole)
@@ -74,10 +76,15 @@ module _ (writing : Bool) where
 -- ---- measured
 
 module _ (T : Table) (size n : ℕ) (e : size + 19 ≡ n) (whole done : List Range) (c : Closing) (k : Closes size T whole done c) where
-  pub closed_at : below_least (bytes n) ≡ false → (t : State) → HandsOver false (closing_ranges T c) (before c.writer (replicate n 0)) t
-      → t.writer.at ≡ length (sent_message (bytes n) (items T) whole)
-  closed_at least t p =
-      closed-behind false T size n e whole done c k (replicate n 0) (rw (length-replicate {A = ℕ} n 0) (sent-fits n (items T) whole least)) t p
+  module _ (least : below_least (bytes n) ≡ false) (t : State) (p : HandsOver false (closing_ranges T c) (before c.writer (replicate n 0)) t) where
+    room_within : length (sent_message (bytes n) (items T) whole) ≤ length (replicate {A = ℕ} n 0)
+    room_within = rw (length-replicate {A = ℕ} n 0) (sent-fits n (items T) whole least)
+
+    pub measured-taken : t.verdict ≡ taken
+    measured-taken = closed-taken false T size n e whole done c k (replicate n 0) room_within t p
+
+    pub closed_at : t.writer.at ≡ length (sent_message (bytes n) (items T) whole)
+    closed_at = closed-behind false T size n e whole done c k (replicate n 0) room_within t p
 
   -- ---- written, behind what was begun
 
@@ -98,6 +105,9 @@ module _ (T : Table) (size n : ℕ) (e : size + 19 ≡ n) (whole done : List Ran
 
       same-room : length (sent_message (bytes n) (items T) whole) ≤ length o
       same-room = rw (q, length-append (write_message done) (drop c.writer.at out), length-drop c.writer.at out, run-size) (omega (arith, run_room))
+
+      pub written-taken : t.verdict ≡ taken
+      written-taken = closed-taken true T size n e whole done c k o same-room t p
 
       pub closed-length : t.writer.at ≡ length (sent_message (bytes n) (items T) whole)
       closed-length = closed-behind true T size n e whole done c k o same-room t p
@@ -128,7 +138,7 @@ module _ (whole : List Range) (out : List ℕ) (one : 1 ≤ length out) (well : 
   abbrev h : Halt (length out) [] whole t.writer
   h = halts true (length out) [] started o (lay-length out) (at_start (length out) one) whole t p (rw start-lower well) 12 refusal
 
-  pub fills : Fills whole out t.out
+  fills : Fills whole out t.out
   fills done next rest s e l =
       let same = (one_stop (length out) done next rest h.done h.next h.rest (s ∙ sym h.splits) (omega arith) l h.stands.small h.over).0 in
       let there = halts_out (length out) [] started o (lay-length out) (at_start (length out) one) whole t p (rw start-lower well) 12 refusal out (begin_is out one) in
@@ -139,8 +149,21 @@ module _ (whole : List Range) (out : List ℕ) (one : 1 ≤ length out) (well : 
       none n e = let l : length out ≤ n = omega arith in drop_of_length-le out l
 
 -- the part of the buffer up to `at` is filled by the run; behind it the bytes remain
-pub filled_run : (whole done : List Range) (next : Range) (rest : List Range) (at : ℕ) (out after : List ℕ) → done ++ (next ∷ rest) ≡ whole → length (write_message done) ≡ at → at ≤ length out
+filled_run : (whole done : List Range) (next : Range) (rest : List Range) (at : ℕ) (out after : List ℕ) → done ++ (next ∷ rest) ≡ whole → length (write_message done) ≡ at → at ≤ length out
     → at < length (write_message (done ++ (next ∷ []))) → Fills whole (take at out) after → after ++ drop at out ≡ write_message done ++ drop at out
 filled_run whole done next rest at out after s e l o f =
     let n = length-take-le at out l in
     ap (λ (a : List ℕ). a ++ drop at out) (f done next rest s (e ∙ sym n) (rw n o))
+
+-- the run of a message that is cut short, written into the part of the buffer that it fills
+pub run-written : (T : Table) (size n : ℕ) (e : size + 19 ≡ n) (whole : List Range) (stop : Stop) (s : Stopped size T whole stop) (c : Closing) (k : Closes size T whole s.done c) (out : List ℕ)
+    → length (sent_message (bytes n) (items T) whole) ≤ length out → WellFormed whole → n < length (write_message whole)
+    → (t : State) → HandsOver true whole (before started (lay (0x61 ∷ []) (take c.writer.at out))) t → t.out ++ drop c.writer.at out ≡ write_message s.done ++ drop c.writer.at out
+run-written T size n e whole stop s c k out room well exceeds t p =
+    let at = run-size T size n e whole s.done c k out room in
+    let fits = run_room T size n e whole s.done c k out room in
+    let small = s.small in
+    let over = s.over in
+    let len = length-take-le c.writer.at out fits in
+    filled_run whole s.done s.next s.rest c.writer.at out _ s.splits at fits (omega arith)
+    (fills whole (take c.writer.at out) (rw (len, ← at) (some_byte s.done)) well (rw len (omega arith)) t p)

@@ -12,7 +12,7 @@ use Rattle.message.specs.Meaning.{is_skip, tidy, write_message}
 use Rattle.message.specs.WellFormed.{All, Rising, WellFormed}
 use Rattle.message.specs.Code.{range_of}
 use Rattle.message.proofs.Exact.{by_test}
-use Rattle.writer.specs.Writing.{Verdict, taken, refused, started, lower_of, more_bytes, verdict, moved, next, out_after}
+use Rattle.writer.specs.Writing.{Verdict, taken, refused, started, lower_of, more_bytes, moved, next, out_after}
 use Rattle.writer.specs.Private.{Lawful}
 use Rattle.writer.specs.Stream.{Handed, meant, State, before, hand_after, hand_over}
 use Rattle.writer.specs.Handover.{is_taken, Fit, HandsOver}

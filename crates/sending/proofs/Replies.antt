@@ -1,5 +1,5 @@
 -- Where a reply, or a later query, stops: the ranges of the other's message, one after another.
-use Prim.Native.Nat.{ℕ, zero, suc, ◌+◌, ◌-◌, ◌*◌, ◌^◌, ◌≤◌, ◌<◌}
+use Prim.Native.Nat.{ℕ, zero, suc, ◌-◌, ◌*◌, ◌^◌, ◌≤◌, ◌<◌}
 use mathlib.Core.Path.{◌≡◌, refl, sym, ap, ◌∙◌}
 use mathlib.Core.Bool.{Bool, true, false, cond}
 use mathlib.Core.List.{List, [], ◌∷◌, ◌++◌, append-nil, append_assoc}
@@ -7,6 +7,8 @@ use native.Mathlib.Omega.{arith}
 use lib.Dec.{leb}
 use lib.ListN.{length, take, drop, replicate, length-append, length-replicate}
 use borrow.Author.Tests.{leb-true, leb-false}
+use Rattle.std.specs.Prelude.{Result}
+use Rattle.message.specs.declared.Refusal.{Refusal}
 use Rattle.message.specs.Bound.{Bound, infinity, finite, big_endian, id_space, time, key, start}
 use Rattle.message.specs.Message.{Payload, skip, fingerprint, ids, Range, range, upper}
 use Rattle.message.specs.Meaning.{is_skip, tidy, write_message}
@@ -27,7 +29,6 @@ use Rattle.writer.specs.Writing.{taken, refused, verdict_of, started, lower_of}
 use Rattle.writer.specs.Stream.{State, meant, before, hand_over}
 use Rattle.writer.specs.Handover.{after, HandsOver}
 use Rattle.writer.specs.declared.write.Writer.{Writer}
-use Rattle.writer.specs.declared.write.Write.{Write}
 use Rattle.writer.specs.Handover.{Follows}
 use Rattle.table.specs.Table.{Item, Table, items, within, ids_of}
 use Rattle.table.specs.Private.{Passed, place_of}
@@ -211,8 +212,8 @@ module _ (listing : Bool) (c : Cut) (T : Table) (m : List ℕ) (by : Bytes T.ids
         let s : length (write_message whole) ≤ n = rw all at g.stands.small in
         omega arith
 
-    module _ (st : Step) (s : Stepped T m w st) (r : Write)
-        (one : HandsOver false (f (lower_at w.cursor) (upper_of st.span) (payload_of st.payload m)) (before wr zeros) (after r zeros)) where
+    module _ (st : Step) (s : Stepped T m w st) (r : Result (Unit {0}) Refusal) (wr' : Writer)
+        (one : HandsOver false (f (lower_at w.cursor) (upper_of st.span) (payload_of st.payload m)) (before wr zeros) (after r wr' zeros)) where
       abbrev made : List Range
       made = f (lower_at w.cursor) (upper_of st.span) (payload_of st.payload m)
 
@@ -240,33 +241,33 @@ module _ (listing : Bool) (c : Cut) (T : Table) (m : List ℕ) (by : Bytes T.ids
 
       -- ---- all of it was taken
 
-      module _ (v : verdict_of r.written ≡ taken) where
+      module _ (v : verdict_of r ≡ taken) where
         all : meant one.handed ≡ made
         all = sym (append-nil (meant one.handed)) ∙ ap (λ (l : List Range). meant one.handed ++ l) (sym (one.whole v)) ∙ one.means
 
-        there : Behind n (g.sofar ++ made) r.next
+        there : Behind n (g.sofar ++ made) wr'
         there =
             let led = ap (λ (t : State). t.verdict) (sym one.leads) ∙ v in
             let b = all_taken false n g.sofar wr one.handed zeros (length-replicate {A = ℕ} n 0) g.stands one.fit led in
-            let same : (hand_over false (before wr zeros) one.handed).writer ≡ r.next = ap (λ (t : State). t.writer) (sym one.leads) in
+            let same : (hand_over false (before wr zeros) one.handed).writer ≡ wr' = ap (λ (t : State). t.writer) (sym one.leads) in
             rw (all, same) at b.0
 
-        written-place : r.next.pending ≡ false → st.span.hi ≡ place_of (run_end start (tidy (g.sofar ++ made))) (items T)
+        written-place : wr'.pending ≡ false → st.span.hi ≡ place_of (run_end start (tidy (g.sofar ++ made))) (items T)
         written-place e =
             let d = g.sofar ++ made in
             let none : waiting d ≡ [] = rw e at there.follows.wait in
             let last : run_end start (tidy d) ≡ y = ap (run_end start) (sym (append-nil (tidy d)) ∙ ap (λ (l : List Range). tidy d ++ l) (sym none)) ∙ end-run d ∙ sofar_end in
             s.to ∙ ap (λ (b : Bound). place_of b (items T)) (sym last)
 
-        waits : {C : Type 0} → r.next.pending ≡ true → waiting (g.sofar ++ made) ≡ [] → C
-        waits e none = not-waiting (g.sofar ++ made) r.next there.follows none e
+        waits : {C : Type 0} → wr'.pending ≡ true → waiting (g.sofar ++ made) ≡ [] → C
+        waits e none = not-waiting (g.sofar ++ made) wr' there.follows none e
 
-        waiting-place : r.next.pending ≡ true → Made y (own_in T st.span) lists made → kept ≡ place_of (run_end start (tidy (g.sofar ++ made))) (items T)
+        waiting-place : wr'.pending ≡ true → Made y (own_in T st.span) lists made → kept ≡ place_of (run_end start (tidy (g.sofar ++ made))) (items T)
         waiting-place e (one-skip k) = g.place ∙ ap (λ (l : List Range). place_of (run_end start l) (items T)) (sym (tidy-skip g.sofar (range y skip) (is_skip_lem y)) ∙ ap (λ (l : List Range). tidy (g.sofar ++ l)) (sym k))
         waiting-place e (one_list l k) = waits e (rw k (waits_none g.sofar (range y (ids (ids_of (own_in T st.span))) ∷ []) (omega arith) (list-no-skip y _, tt)))
         waiting-place e (prints l a h k) = waits e (waits_none g.sofar made h (others made a))
 
-        pub going_next : (k : ℕ) → k ≡ cond r.next.pending kept st.span.hi → Going listing c T m n k st.next r.next
+        pub going_next : (k : ℕ) → k ≡ cond wr'.pending kept st.span.hi → Going listing c T m n k st.next wr'
         going_next k p = record {
           sofar = g.sofar ++ made;
           splits = joined;
@@ -274,21 +275,21 @@ module _ (listing : Bool) (c : Cut) (T : Table) (m : List ℕ) (by : Bytes T.ids
           walking = s.next;
           ends = sofar_end ∙ sym s.upper;
           place =
-              by_test r.next.pending
+              by_test wr'.pending
               (λ e. p ∙ rw e refl ∙ waiting-place e kind)
               (λ e. p ∙ rw e refl ∙ written-place e);
         }
 
       -- ---- it stops within it
 
-      module _ (well : WellFormed whole) (k : ℕ) (v : verdict_of r.written ≡ refused k) where
+      module _ (well : WellFormed whole) (k : ℕ) (v : verdict_of r ≡ refused k) where
         rises : Rising (lower_of wr) made
         rises =
             let all : Rising start (g.sofar ++ (made ++ becomes f m st.next)) = rw (← append_assoc g.sofar made (becomes f m st.next), joined) well in
             rw (← g.stands.lower) (rising-front (run_end start g.sofar) made (becomes f m st.next) (rising-behind start g.sofar (made ++ becomes f m st.next) all))
 
-        h : Halt n g.sofar made r.next
-        h = halts false n g.sofar wr zeros (length-replicate {A = ℕ} n 0) g.stands made (after r zeros) one rises k v
+        h : Halt n g.sofar made wr'
+        h = halts false n g.sofar wr zeros (length-replicate {A = ℕ} n 0) g.stands made (after r wr' zeros) one rises k v
 
         abbrev done : List Range
         done = g.sofar ++ h.done
@@ -320,7 +321,7 @@ module _ (listing : Bool) (c : Cut) (T : Table) (m : List ℕ) (by : Bytes T.ids
         no-skip (at_list l d e) = rw e (list-no-skip y _)
         no-skip (at_print l d e) = print-no-skip h.next e
 
-        waits_kept : Where → r.next.pending ≡ true → kept ≡ place_of (run_end start (tidy done)) (items T)
+        waits_kept : Where → wr'.pending ≡ true → kept ≡ place_of (run_end start (tidy done)) (items T)
         waits_kept (at_list l d e) t = g.place ∙ ap (λ (l : List Range). place_of (run_end start (tidy l)) (items T)) (sym (append-nil g.sofar) ∙ ap (λ (l : List Range). g.sofar ++ l) (sym d))
         waits_kept (at_print l d e) t = by-done h.done refl
           where
@@ -328,7 +329,7 @@ module _ (listing : Bool) (c : Cut) (T : Table) (m : List ℕ) (by : Bytes T.ids
             by-done [] q = g.place ∙ ap (λ (l : List Range). place_of (run_end start (tidy l)) (items T)) (sym (append-nil g.sofar) ∙ ap (λ (l : List Range). g.sofar ++ l) (sym q))
             by-done (x ∷ a) q =
                 let some : 0 < length h.done = rw q (omega arith) in
-                not-waiting done r.next h.stands.follows (waits_none g.sofar h.done some (others h.done d)) t
+                not-waiting done wr' h.stands.follows (waits_none g.sofar h.done some (others h.done d)) t
 
         written_below : key (run_end start (tidy done)) < key infinity
         written_below =
@@ -337,20 +338,20 @@ module _ (listing : Bool) (c : Cut) (T : Table) (m : List ℕ) (by : Bytes T.ids
             rw (← tidy-behind done h.next (h.rest ++ becomes f m st.next) (no-skip (where_is kind)), splits) (tidy-rises start whole well) in
             followed (run_end start (tidy done)) (waiting done ++ (h.next ∷ more)) (omega (arith, length-append (waiting done) (h.next ∷ more))) (rising-behind start (tidy done) (waiting done ++ (h.next ∷ more)) t)
 
-        timed : r.next.time ≤ 2 ^ 64 - 2
+        timed : wr'.time ≤ 2 ^ 64 - 2
         timed = rw (h.stands.follows.last, last_end start (tidy done)) (time-below (run_end start (tidy done)) written_below)
 
-        below : key (lower_of r.next) < key infinity
+        below : key (lower_of wr') < key infinity
         below =
             let rest = h.rest ++ becomes f m st.next in
             rw (← h.stands.lower) (followed (run_end start done) (h.next ∷ rest) (omega arith) (rising-behind start done (h.next ∷ rest) (rw splits well)))
 
-        own-there : h.done ≡ [] → within (lower_of r.next) y (items T) ≡ own_in T st.span
+        own-there : h.done ≡ [] → within (lower_of wr') y (items T) ≡ own_in T st.span
         own-there d =
-            let same : lower_of r.next ≡ lower_at w.cursor = sym h.stands.lower ∙ ap (run_end start) (ap (λ (l : List Range). g.sofar ++ l) d ∙ append-nil g.sofar) ∙ g.ends in
+            let same : lower_of wr' ≡ lower_at w.cursor = sym h.stands.lower ∙ ap (run_end start) (ap (λ (l : List Range). g.sofar ++ l) d ∙ append-nil g.sofar) ∙ g.ends in
             rw same s.own
 
-        listed : Where → lists ≡ true → (h.next ≡ range y (ids (ids_of (own_in T st.span)))) × (within (lower_of r.next) y (items T) ≡ own_in T st.span)
+        listed : Where → lists ≡ true → (h.next ≡ range y (ids (ids_of (own_in T st.span)))) × (within (lower_of wr') y (items T) ≡ own_in T st.span)
         listed (at_list l d e) t = (e, own-there d)
         listed (at_print l d e) t = clash t l
 
@@ -359,7 +360,7 @@ module _ (listing : Bool) (c : Cut) (T : Table) (m : List ℕ) (by : Bytes T.ids
         unlisted (at_print l d e) t = e
 
         abbrev stop : Bool → Stop
-        stop b = record { writer = r.next; kept = kept; span = st.span; listed = b }
+        stop b = record { writer = wr'; kept = kept; span = st.span; listed = b }
 
         pub reply_stops : (b : Bool) → b ≡ lists → Stopped n T whole (stop b) × Stands T (stop b)
         reply_stops b q =

@@ -8,11 +8,15 @@ use lib.Dec.{leb, ltb}
 use lib.ListN.{length, replicate, length-replicate}
 use lib.Seq.{take_all}
 use borrow.Author.Tests.{leb-true, leb-false, le-leb, lt-leb, le-ltb, lt-ltb, ltb-true, ltb-false}
+use Rattle.std.specs.Prelude.{Result, Ok, Err, Option, Some, None, is_err}
+use Rattle.std.specs.Result.{result_ok}
+use Rattle.message.specs.declared.Refusal.{Refusal}
+use Rattle.message.specs.Code.{number_of}
 use Rattle.message.specs.Message.{Range, spell_message}
 use Rattle.message.specs.Meaning.{write_message}
 use Rattle.message.specs.WellFormed.{Bytes, WellFormed}
 use Rattle.message.proofs.Exact.{by_test, differ}
-use Rattle.writer.specs.Writing.{Verdict, taken, refused, judge, lay, started}
+use Rattle.writer.specs.Writing.{Verdict, taken, refused, verdict_of, judge, lay, started}
 use Rattle.writer.specs.Stream.{State, before}
 use Rattle.writer.specs.Handover.{is_taken, HandsOver}
 use Rattle.writer.proofs.Fits.{handed-fits, handed_out, handed_at}
@@ -27,7 +31,8 @@ use Rattle.table.proofs.Items.{items-length}
 use Rattle.cutting.specs.Cutting.{outside_limits, cut}
 use Rattle.cutting.specs.Private.{own_in, upper_of, Inside}
 use Rattle.ends.specs.Lists.{overwrite}
-use Rattle.ends.specs.Calls.{Result, result}
+use Rattle.ends.specs.Calls as calls
+use Rattle.ends.specs.Calls.{result}
 use Rattle.ends.specs.Responder.{reply, send}
 use Rattle.ends.specs.Opener.{first_query, next_query}
 use Rattle.ends.proofs.Tables.{kept}
@@ -36,7 +41,7 @@ use Rattle.walk.specs.Walking.{starts, Walking}
 use Rattle.walk.proofs.Steps.{lower-starts}
 use Rattle.exchange.specs.Given.{made}
 use Rattle.sending.specs.declared.Kind.{Kind}
-use Rattle.sending.specs.Private.{to_send, Walks, whole}
+use Rattle.sending.specs.Private.{to_send, Walks, length_within, whole}
 
 -- ---- what is sent can be carried by a message
 
@@ -75,12 +80,48 @@ pub some_byte : (rs : List Range) → 1 ≤ length (write_message rs)
 unfolding write_message spell_message
 some_byte rs = omega arith
 
+-- the length is told just where the message fits
+pub fits-told : (message : List ℕ) (size : ℕ) → length message ≤ size → length_within message size ≡ Some (length message)
+fits-told message size l = rw (le-leb (length message) size l) refl
+
+pub over-told : (message : List ℕ) (size : ℕ) → size < length message → length_within message size ≡ None
+over-told message size l = rw (lt-leb (length message) size l) refl
+
+pub told-fits : (message : List ℕ) (size n : ℕ) → length_within message size ≡ Some n → (length message ≤ size) × (n ≡ length message)
+told-fits message size n e =
+    by_test (leb (length message) size)
+    (λ t. let z : Some (length message) ≡ Some n = rw t at e in (leb-true _ _ t, cc))
+    (λ t. let z : ◌≡◌ {A = Option ℕ} None (Some n) = rw t at e in differ (cc))
+
+pub told-over : (message : List ℕ) (size : ℕ) → length_within message size ≡ None → size < length message
+told-over message size e =
+    by_test (leb (length message) size)
+    (λ t. let z : ◌≡◌ {A = Option ℕ} (Some (length message)) None = rw t at e in differ (cc))
+    (leb-false _ _)
+
+-- what a result tells of its verdict
+pub refused-by : (r : Result (Unit {0}) Refusal) → is_err r ≡ true → (k : ℕ) × (verdict_of r ≡ refused k)
+refused-by (Ok u) e = clash e refl
+refused-by (Err k) e = (number_of k, refl)
+
+pub taken-by : (r : Result (Unit {0}) Refusal) → is_err r ≡ false → verdict_of r ≡ taken
+taken-by (Ok u) e = refl
+taken-by (Err k) e = clash refl e
+
+pub none-refused : {A : Type 0} (r : Result A Refusal) → result_ok r ≡ None → is_taken (verdict_of r) ≡ false
+none-refused (Ok a) e = differ (cc)
+none-refused (Err k) e = refl
+
+pub some-ok : {A : Type 0} (r : Result A Refusal) (a : A) → result_ok r ≡ Some a → r ≡ Ok a
+some-ok (Ok b) a e = cc
+some-ok (Err k) a e = cc
+
 -- the byte 61 has no room
-pub no_start : (target : List Range) (size : ℕ) → is_taken (judge 12 (leb 1 size) taken) ≡ false → false ≡ leb (length (write_message target)) size
+pub no_start : (target : List Range) (size : ℕ) → is_taken (judge 12 (leb 1 size) taken) ≡ false → size < length (write_message target)
 no_start target size e =
     by_test (leb 1 size)
     (λ t. let z : true ≡ false = rw t at e in clash refl z)
-    (λ t. sym (lt-leb (length (write_message target)) size (let l = leb-false 1 size t in let b = some_byte target in omega arith)))
+    (λ t. let l = leb-false 1 size t in let b = some_byte target in omega arith)
 
 pub start-room : (size : ℕ) → is_taken (judge 12 (leb 1 size) taken) ≡ true → 1 ≤ size
 start-room size e = by_test (leb 1 size) (leb-true 1 size) (λ t. let z : false ≡ true = rw t at e in clash z refl)
@@ -107,15 +148,15 @@ module _ (target : List Range) (out : List ℕ) (t : State) (r : WellFormed targ
   some : 1 ≤ length out
   some = let b = some_byte target in omega arith
 
-  all_taken : t.verdict ≡ taken
-  all_taken = handed-fits true target (lay (0x61 ∷ []) out) t p (rw (lay-length out) some) r ∙ rw (lay-length out, le-leb (length (write_message target)) (length out) l) refl
+  pub all-taken : t.verdict ≡ taken
+  all-taken = handed-fits true target (lay (0x61 ∷ []) out) t p (rw (lay-length out) some) r ∙ rw (lay-length out, le-leb (length (write_message target)) (length out) l) refl
 
   pub sent-out : t.out ≡ overwrite (write_message target) out
   unfolding overwrite
-  sent-out = handed_out target out t p some all_taken
+  sent-out = handed_out target out t p some all-taken
 
   pub sent-length : t.writer.at ≡ length (write_message target)
-  sent-length = handed_at true target (lay (0x61 ∷ []) out) t p all_taken
+  sent-length = handed_at true target (lay (0x61 ∷ []) out) t p all-taken
 
 -- ---- what the call answers
 
@@ -133,12 +174,12 @@ module _ (message out : List ℕ) where
   was_refused k after e =
       by_test (ltb (length out) (length message))
       (λ t.
-      let z : ◌≡◌ {A = Result (List ℕ)} (record { answer = answers.refused 12; lent = out }) (record { answer = answers.refused k; lent = after }) = rw t at e in
-      let n : answers.refused 12 ≡ answers.refused k = ap (λ (r : Result (List ℕ)). r.answer) z in
-      (ltb-true (length out) (length message) t, (let y : 12 ≡ k = cc in sym y), sym (ap (λ (r : Result (List ℕ)). r.lent) z)))
+      let z : ◌≡◌ {A = calls.Result (List ℕ)} (record { answer = answers.refused 12; lent = out }) (record { answer = answers.refused k; lent = after }) = rw t at e in
+      let n : answers.refused 12 ≡ answers.refused k = ap (λ (r : calls.Result (List ℕ)). r.answer) z in
+      (ltb-true (length out) (length message) t, (let y : 12 ≡ k = cc in sym y), sym (ap (λ (r : calls.Result (List ℕ)). r.lent) z)))
       (λ t.
       let z = rw t at e in
-      let n : answers.answer (length message) ≡ answers.refused k = ap (λ (r : Result (List ℕ)). r.answer) z in
+      let n : answers.answer (length message) ≡ answers.refused k = ap (λ (r : calls.Result (List ℕ)). r.answer) z in
       differ (cc))
 
   pub was_sent : (n : ℕ) (after : List ℕ) → result out (send message out) ≡ record { answer = answers.answer n; lent = after }
@@ -147,12 +188,12 @@ module _ (message out : List ℕ) where
       by_test (ltb (length out) (length message))
       (λ t.
       let z = rw t at e in
-      let n : answers.refused 12 ≡ answers.answer n = ap (λ (r : Result (List ℕ)). r.answer) z in
+      let n : answers.refused 12 ≡ answers.answer n = ap (λ (r : calls.Result (List ℕ)). r.answer) z in
       differ (cc))
       (λ t.
-      let z : ◌≡◌ {A = Result (List ℕ)} (record { answer = answers.answer (length message); lent = overwrite message out }) (record { answer = answers.answer n; lent = after }) = rw t at e in
-      let m : answers.answer (length message) ≡ answers.answer n = ap (λ (r : Result (List ℕ)). r.answer) z in
-      (ltb-false (length out) (length message) t, (let y : length message ≡ n = cc in sym y), sym (ap (λ (r : Result (List ℕ)). r.lent) z)))
+      let z : ◌≡◌ {A = calls.Result (List ℕ)} (record { answer = answers.answer (length message); lent = overwrite message out }) (record { answer = answers.answer n; lent = after }) = rw t at e in
+      let m : answers.answer (length message) ≡ answers.answer n = ap (λ (r : calls.Result (List ℕ)). r.answer) z in
+      (ltb-false (length out) (length message) t, (let y : length message ≡ n = cc in sym y), sym (ap (λ (r : calls.Result (List ℕ)). r.lent) z)))
 
 -- ---- the whole range
 

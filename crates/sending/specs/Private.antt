@@ -37,8 +37,8 @@ abbrev pub Sends : List ℕ → List ℕ → Result ℕ Refusal → List ℕ →
 Sends message before r after = result before (send message before) ≡ record { answer = answer_of r; lent = after }
 
 -- the length of a message, if it has at most `size` bytes
-abbrev pub measured : List ℕ → ℕ → Option ℕ
-measured message size = cond (leb (length message) size) (Some (length message)) None
+abbrev pub length_within : List ℕ → ℕ → Option ℕ
+length_within message size = cond (leb (length message) size) (Some (length message)) None
 
 -- ---- where a message stops
 

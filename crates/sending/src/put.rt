@@ -62,7 +62,7 @@ pub fn measure(
     size: usize,
 ) -> Option<usize>
     requires { Passed (lent times.now own.now) × (outside_limits (cut_of cut) ≡ false) × Walks kind (lent times.now own.now) m.now }
-    ensures { result ≡ spec.measured (write_message (to_send kind (cut_of cut) (lent times.now own.now) m.now)) size }
+    ensures { result ≡ spec.length_within (write_message (to_send kind (cut_of cut) (lent times.now own.now) m.now)) size }
 {
     let mut writer = Writer::start(size).ok()?;
     let pass = Pass::Measure { size };
@@ -83,6 +83,7 @@ pub fn write(
     ensures { (w : W.Writer) × HandsOver true (to_send kind (cut_of cut) (lent times.now own.now) m.now) (before started (lay (0x61 ∷ []) out.old)) (after result w out.new) }
 {
     let mut writer = Writer::START;
+    // Where the byte 61 has no room, the first range has none.
     let _ = Writer::begin(out);
     put_message(&mut writer, out, Pass::Write, kind, times, own, cut, m)
 }

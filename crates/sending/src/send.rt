@@ -56,11 +56,12 @@ fn send_short(
     let closing = close(stop, size, times, own);
     let pass = Pass::Measure { size: most };
     let mut end = closing.writer;
-    let _ = put_closing(&mut end, &mut [], pass, times, own, closing);
+    put_closing(&mut end, &mut [], pass, times, own, closing)?;
     if out.len() < end.at {
         return Err(Refusal::NoRoom);
     }
     let mut writer = closing.writer;
+    // The run fills this part: the range behind it is refused.
     let _ = write(kind, times, own, cut, m, &mut out[..writer.at]);
     put_closing(&mut writer, out, Pass::Write, times, own, closing)?;
     Ok(end.at)

@@ -31,6 +31,7 @@ fn stop_opening(times: &[u64], own: &[u8], cut: Cut, size: usize) -> Stop
     let span = whole(times);
     let pass = Pass::Measure { size };
     let mut writer = Writer::START;
+    // Refused at the range where it stops.
     let _ = put_cut(&mut writer, &mut [], pass, times, own, cut, span);
     Stop {
         writer,
@@ -65,7 +66,16 @@ fn stop_reply(times: &[u64], own: &[u8], cut: Cut, listing: bool, m: &[u8], size
         let span = step.span;
         let payload = step.payload;
         let put = put_treated(
-            &mut writer, &mut [], pass, listing, times, own, cut, m, span, payload,
+            &mut writer,
+            &mut [],
+            pass,
+            listing,
+            times,
+            own,
+            cut,
+            m,
+            span,
+            payload,
         );
         if put.is_err() {
             return Stop {

@@ -4,7 +4,6 @@ use mathlib.Core.Path.{◌≡◌, refl, sym, ap, ◌∙◌}
 use mathlib.Core.Bool.{Bool, true, false, not, ◌||◌}
 use mathlib.Core.List.{List, [], ◌∷◌}
 use borrow.Author.Tests.{not-true, not-false}
-use Rattle.label.specs.Code.{label_in}
 use Rattle.table.specs.Answer.{answer, refused}
 use Rattle.table.specs.Table.{Table, judge_table}
 use Rattle.table.specs.Private.{Passed}
@@ -12,17 +11,11 @@ use Rattle.tablelabel.proofs.Verdicts.{labelled-refused}
 use Rattle.ends.specs.Opener as E
 use Rattle.ends.specs.Opener.{wrong_buffers, wrong_contents, table_label}
 use Rattle.ends.specs.Converting.{Unlabelled, labelled, kept, converted}
-use Rattle.session.specs.Code.{session_in, no_session, kept_by}
-
--- the constant `Session::NONE`
-pub none_is : session_in (record { marked = 0; needed = 0; done = false; label = record { sum = 0 ∷ 0 ∷ 0 ∷ 0 ∷ []; count = 0 } }) ≡ no_session
-unfolding label_in
-none_is = refl
 
 module _ (T : Table) (u : Unlabelled) (marks needed : List ℕ) where
-  pub convert_refused : (k : ℕ) → refused k ≡ judge_table T (answer (table_label T)) → kept_by (converted T u marks needed) ≡ record { answer = refused k; lent = no_session }
+  pub convert_refused : (k : ℕ) → refused k ≡ judge_table T (answer (table_label T)) → refused k ≡ converted T u marks needed
   unfolding converted
-  convert_refused k e = rw (← labelled-refused T (table_label T) _ k e) refl
+  convert_refused k e = labelled-refused T (table_label T) _ k e
 
   abbrev wrong : E.Session → Bool
   wrong s = wrong_buffers T (kept s marks needed) || wrong_contents (kept s marks needed)
@@ -32,13 +25,10 @@ module _ (T : Table) (u : Unlabelled) (marks needed : List ℕ) where
     judged : (b : Bool) → wrong s ≡ b → wrong (labelled T u) ≡ b
     judged b e = ap wrong (sym is) ∙ e
 
-    pub convert_wrong : not fit ≡ true → kept_by (converted T u marks needed) ≡ record { answer = refused 4; lent = no_session }
+    pub convert_wrong : not fit ≡ true → refused 4 ≡ converted T u marks needed
     unfolding converted
     convert_wrong h = rw (ok.0, ok.1, judged true (not-false (wrong s) (sym told ∙ not-true fit h))) refl
 
-    pub convert_done : not fit ≡ false → kept_by (converted T u marks needed) ≡ record { answer = answer 0; lent = s }
+    pub convert_done : not fit ≡ false → answer s ≡ converted T u marks needed
     unfolding converted
-    convert_done h =
-        let kept_as : kept_by (converted T u marks needed) ≡ record { answer = answer 0; lent = labelled T u } =
-        rw (ok.0, ok.1, judged false (not-true (wrong s) (sym told ∙ not-false fit h))) refl in
-        kept_as ∙ (λ i. record { answer = answer 0; lent = sym is i })
+    convert_done h = ap answer is ∙ rw (ok.0, ok.1, judged false (not-true (wrong s) (sym told ∙ not-false fit h))) refl

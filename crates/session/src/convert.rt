@@ -1,14 +1,12 @@
 // Sessions kept from before sessions had a label.
 ghost use Rattle.std.specs.Prelude.{◌≡◌};
-ghost use Rattle.table.specs.Code.{lent};
+ghost use Rattle.table.specs.Code.{answer_by, lent};
 ghost use Rattle.ends.specs.Converting.{converted};
-ghost use Rattle.sending.specs.Code.{outcome_of};
-ghost use Rattle.session.specs.Code.{session_in, unlabelled_in, kept_by};
+ghost use Rattle.session.specs.Code.{session_in, unlabelled_in};
 
 use crate::check::state_fits;
-use crate::opener::{Session, SessionOutcome, refuse};
-use sending::Outcome;
-use table::{Checked, Refusal};
+use crate::opener::Session;
+use table::Refusal;
 use tablelabel::check_and_label;
 
 // A session without a label: how many marks are 1, how many ids are needed, and whether it is done.
@@ -26,28 +24,18 @@ pub fn convert_session(
     session: Unlabelled,
     marks: &[u8],
     needed: &[u8],
-) -> SessionOutcome
-    ensures { kept_by (converted (lent times.now ids.now) (unlabelled_in session) marks.now needed.now) ≡ record { answer = outcome_of result.outcome; lent = session_in result.session } }
+) -> Result<Session, Refusal>
+    ensures { answer_by session_in result ≡ converted (lent times.now ids.now) (unlabelled_in session) marks.now needed.now }
 {
-    let table = check_and_label(times, ids);
-    let label = table.label;
-    let checked = table.checked;
-    match checked {
-        Checked::Refused { refusal } => refuse(refusal, Session::NONE),
-        Checked::Passed => {
-            let labelled = Session {
-                marked: session.marked,
-                needed: session.needed,
-                done: session.done,
-                label,
-            };
-            if !state_fits(times.len(), labelled, marks, needed) {
-                return refuse(Refusal::WrongState, Session::NONE);
-            }
-            SessionOutcome {
-                outcome: Outcome::Written { length: 0 },
-                session: labelled,
-            }
-        }
+    let label = check_and_label(times, ids)?;
+    let labelled = Session {
+        marked: session.marked,
+        needed: session.needed,
+        done: session.done,
+        label,
+    };
+    if !state_fits(times.len(), labelled, marks, needed) {
+        return Err(Refusal::WrongState);
     }
+    Ok(labelled)
 }

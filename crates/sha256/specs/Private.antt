@@ -1,16 +1,12 @@
 -- What the contracts of the crate's private functions cite beside the standard. Assumes nothing.
-use Rattle.std.specs.Prelude.{ℕ, ◌+◌, ◌*◌, ◌/◌, List, ◌++◌, length, take, drop}
-use Rattle.sha256.specs.declared.compression.State.{State}
-use Rattle.sha256.specs.Fips180.{Value, bytes4, pad}
+use Rattle.std.specs.Prelude.{ℕ, ◌*◌, ◌/◌, List, length, drop, slice_index}
+use Rattle.sha256.specs.Fips180.{Value, pad}
 
--- the code's struct as a value of the standard
-abbrev pub value_of : State → Value
-value_of s = record { a = s.a; b = s.b; c = s.c; d = s.d; e = s.e; f = s.f; g = s.g; h = s.h }
+-- the code's eight words as a value of the standard
+abbrev pub value_of : List ℕ → Value
+value_of s =
+    record { a = slice_index s 0; b = slice_index s 1; c = slice_index s 2; d = slice_index s 3; e = slice_index s 4; f = slice_index s 5; g = slice_index s 6; h = slice_index s 7 }
 
 -- the padded message behind the whole blocks of m
 unfoldable pub rest : List ℕ → List ℕ
 rest m = drop (length m / 64 * 64) (pad m)
-
--- d with the bytes of the word w at index at
-abbrev pub with_word : ℕ → ℕ → List ℕ → List ℕ
-with_word at w d = take at d ++ bytes4 w ++ drop (at + 4) d

@@ -1,14 +1,13 @@
 // FIPS 180-4, section 6.2.2: a block of 64 bytes is taken into the hash value.
-ghost use Rattle.std.specs.Prelude.{◌≡◌, ◌+◌, ◌*◌, ◌^◌, ◌<◌, ◌≤◌, length, take, drop};
-ghost use Rattle.sha256.specs.Fips180.{Value, K, T₁, T₂, word_at};
+ghost use Rattle.std.specs.Prelude.{◌≡◌, ℕ, List, ◌+◌, ◌*◌, length, drop};
+ghost use Rattle.std.specs.Simd.{first_chunks};
 ghost use Rattle.sha256.specs.Fips180 as fips;
 ghost use Rattle.sha256.specs.Private.{value_of};
 
 use super::functions::{big_sigma0, big_sigma1, choose, majority, small_sigma0, small_sigma1};
-use std::num::wrapping_add_u32;
 
 // Section 4.2.2: the constants of the rounds.
-const CONSTANTS: [u32; 64] = [
+static CONSTANTS: [u32; 64] = [
     0x428a_2f98,
     0x7137_4491,
     0xb5c0_fbcf,
@@ -75,163 +74,67 @@ const CONSTANTS: [u32; 64] = [
     0xc671_78f2,
 ];
 
-// A hash value, or the eight working variables.
-#[derive(Clone, Copy)]
-pub struct State {
-    pub a: u32,
-    pub b: u32,
-    pub c: u32,
-    pub d: u32,
-    pub e: u32,
-    pub f: u32,
-    pub g: u32,
-    pub h: u32,
-}
-
-// T1 of a round, with its constant k and its word w of the schedule.
-fn temp1(s: State, k: u32, w: u32) -> u32
-    ensures { result ≡ T₁ k w (value_of s) }
+// One round on the eight working variables, with its constant k and its word w of the schedule.
+fn round(v: &mut [u32; 8], k: u32, w: u32)
+    ensures { value_of v.new ≡ fips.round k w (value_of v.old) }
 {
-    let x = wrapping_add_u32(s.h, big_sigma1(s.e));
-    let y = wrapping_add_u32(x, choose(s.e, s.f, s.g));
-    wrapping_add_u32(wrapping_add_u32(y, k), w)
-}
-
-// T2 of a round.
-fn temp2(s: State) -> u32
-    ensures { result ≡ T₂ (value_of s) }
-{
-    wrapping_add_u32(big_sigma0(s.a), majority(s.a, s.b, s.c))
-}
-
-// One round, with its constant k and its word w of the schedule.
-fn round(s: State, k: u32, w: u32) -> State
-    ensures { value_of result ≡ fips.round k w (value_of s) }
-{
-    let t1 = temp1(s, k, w);
-    let t2 = temp2(s);
-    State {
-        a: wrapping_add_u32(t1, t2),
-        b: s.a,
-        c: s.b,
-        d: s.c,
-        e: wrapping_add_u32(s.d, t1),
-        f: s.e,
-        g: s.f,
-        h: s.g,
-    }
-}
-
-// Round t over the schedule w: where s is what t rounds make of v, the result is what t + 1 rounds make of it.
-fn round_at(s: State, k: &[u32; 64], w: &[u32; 64], t: usize) -> State
-    requires { (t < 64) × (k.now ≡ K) }
-    ensures { (v : Value) → value_of s ≡ fips.rounds t w.now v → value_of result ≡ fips.rounds (t + 1) w.now v }
-{
-    round(s, k[t], w[t])
-}
-
-// Eight rounds, from round t on. Written out: after eight rounds each working variable is back in its place.
-fn eight_rounds(s: State, k: &[u32; 64], w: &[u32; 64], t: usize) -> State
-    requires { (t + 8 ≤ 64) × (k.now ≡ K) }
-    ensures { (v : Value) → value_of s ≡ fips.rounds t w.now v → value_of result ≡ fips.rounds (t + 8) w.now v }
-{
-    let s1 = round_at(s, k, w, t);
-    let s2 = round_at(s1, k, w, t + 1);
-    let s3 = round_at(s2, k, w, t + 2);
-    let s4 = round_at(s3, k, w, t + 3);
-    let s5 = round_at(s4, k, w, t + 4);
-    let s6 = round_at(s5, k, w, t + 5);
-    let s7 = round_at(s6, k, w, t + 6);
-    round_at(s7, k, w, t + 7)
+    let [a, b, c, d, e, f, g, h] = *v;
+    let t1 = h
+        .wrapping_add(big_sigma1(e))
+        .wrapping_add(choose(e, f, g))
+        .wrapping_add(k)
+        .wrapping_add(w);
+    let t2 = big_sigma0(a).wrapping_add(majority(a, b, c));
+    *v = [t1.wrapping_add(t2), a, b, c, d.wrapping_add(t1), e, f, g];
 }
 
 // The 64 rounds over the schedule w.
-fn rounds(s: State, w: &[u32; 64]) -> State
-    ensures { value_of result ≡ fips.rounds 64 w.now (value_of s) }
+fn rounds(v: &mut [u32; 8], w: &[u32; 64])
+    ensures { value_of v.new ≡ fips.rounds 64 w.now (value_of v.old) }
 {
-    // A local, since indexing the constant itself would copy it at each turn.
-    let k = CONSTANTS;
-    let mut v = s;
-    let mut t: usize = 0;
-    while t < 64 {
-        v = eight_rounds(v, &k, w, t);
-        t += 8;
+    // Eight rounds a turn, after which each working variable is back in its place: the compiler unrolls them, and one loop takes 1.15 times as long.
+    for turn in 0..8 {
+        for t in 8 * turn..8 * turn + 8 {
+            round(v, CONSTANTS[t], w[t]);
+        }
     }
-    v
 }
 
-// The word of four bytes, most significant first.
-fn word(a: u8, b: u8, c: u8, d: u8) -> u32
-    ensures { result ≡ a * 2 ^ 24 + b * 2 ^ 16 + c * 2 ^ 8 + d }
+// The schedule of a block.
+fn schedule(block: &[u8; 64]) -> [u32; 64]
+    ensures { result ≡ fips.schedule block.now }
 {
-    (a as u32) * 0x100_0000 + (b as u32) * 0x1_0000 + (c as u32) * 0x100 + (d as u32)
-}
-
-// The word at m[at..].
-fn word_at(m: &[u8], at: usize) -> u32
-    requires { at + 4 ≤ length m.now }
-    ensures { result ≡ word_at m.now at }
-{
-    word(m[at], m[at + 1], m[at + 2], m[at + 3])
-}
-
-// The sixteen words of the block of 64 bytes at m[at..], at the front of the result.
-fn block_words(m: &[u8], at: usize) -> [u32; 64]
-    requires { at + 64 ≤ length m.now }
-    ensures { take 16 result ≡ fips.words 16 (take 64 (drop at m.now)) }
-{
-    let mut w = [0u32; 64];
-    let mut t: usize = 0;
-    while t < 16 {
-        w[t] = word_at(m, at + t * 4);
-        t += 1;
+    let mut w = [0; 64];
+    let (words, _) = block.as_chunks();
+    for (t, word) in words.iter().enumerate() {
+        w[t] = u32::from_be_bytes(*word);
+    }
+    for t in 16..64 {
+        w[t] = small_sigma1(w[t - 2])
+            .wrapping_add(w[t - 7])
+            .wrapping_add(small_sigma0(w[t - 15]))
+            .wrapping_add(w[t - 16]);
     }
     w
 }
 
-// The word of the schedule that follows the first t words of w.
-fn next_word(w: &[u32], t: usize) -> u32
-    requires { (16 ≤ t) × (t ≤ length w.now) }
-    ensures { result ≡ fips.next (take t w.now) }
+// Takes a block into the hash value.
+fn compress(state: &mut [u32; 8], block: &[u8; 64])
+    ensures { value_of state.new ≡ fips.compress (value_of state.old) block.now }
 {
-    let x = wrapping_add_u32(small_sigma1(w[t - 2]), w[t - 7]);
-    wrapping_add_u32(wrapping_add_u32(x, small_sigma0(w[t - 15])), w[t - 16])
-}
-
-// The schedule of the block of 64 bytes at m[at..].
-fn schedule(m: &[u8], at: usize) -> [u32; 64]
-    requires { at + 64 ≤ length m.now }
-    ensures { result ≡ fips.schedule (take 64 (drop at m.now)) }
-{
-    let mut w = block_words(m, at);
-    let mut t: usize = 16;
-    while t < 64 {
-        w[t] = next_word(&w, t);
-        t += 1;
-    }
-    w
-}
-
-fn plus(s: State, t: State) -> State
-    ensures { value_of result ≡ fips.plus (value_of s) (value_of t) }
-{
-    State {
-        a: wrapping_add_u32(s.a, t.a),
-        b: wrapping_add_u32(s.b, t.b),
-        c: wrapping_add_u32(s.c, t.c),
-        d: wrapping_add_u32(s.d, t.d),
-        e: wrapping_add_u32(s.e, t.e),
-        f: wrapping_add_u32(s.f, t.f),
-        g: wrapping_add_u32(s.g, t.g),
-        h: wrapping_add_u32(s.h, t.h),
+    let mut v = *state;
+    rounds(&mut v, &schedule(block));
+    for (i, x) in v.iter().enumerate() {
+        state[i] = state[i].wrapping_add(*x);
     }
 }
 
-// The hash value after s and the block of 64 bytes at m[at..].
-pub fn compress(s: State, m: &[u8], at: usize) -> State
-    requires { at + 64 ≤ length m.now }
-    ensures { value_of result ≡ fips.compress (value_of s) (take 64 (drop at m.now)) }
+// Takes blocks into the hash value. If that was the one after the first k blocks of p, and these come next in p, it is then the one after them.
+pub fn compress_all(state: &mut [u32; 8], blocks: &[[u8; 64]])
+    ensures { (p : List ℕ) (k : ℕ) → value_of state.old ≡ fips.blocks k p → blocks.now ≡ first_chunks 64 (length blocks.now) (drop (k * 64) p)
+        → value_of state.new ≡ fips.blocks (k + length blocks.now) p }
 {
-    let w = schedule(m, at);
-    plus(s, rounds(s, &w))
+    for block in blocks {
+        compress(state, block);
+    }
 }

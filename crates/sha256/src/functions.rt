@@ -17,23 +17,23 @@ pub fn majority(x: u32, y: u32, z: u32) -> u32
 pub fn big_sigma0(x: u32) -> u32
     ensures { result ≡ Σ₀ x }
 {
-    ((x >> 2) | (x << 30)) ^ ((x >> 13) | (x << 19)) ^ ((x >> 22) | (x << 10))
+    x.rotate_right(2) ^ x.rotate_right(13) ^ x.rotate_right(22)
 }
 
 pub fn big_sigma1(x: u32) -> u32
     ensures { result ≡ Σ₁ x }
 {
-    ((x >> 6) | (x << 26)) ^ ((x >> 11) | (x << 21)) ^ ((x >> 25) | (x << 7))
+    x.rotate_right(6) ^ x.rotate_right(11) ^ x.rotate_right(25)
 }
 
 pub fn small_sigma0(x: u32) -> u32
     ensures { result ≡ σ₀ x }
 {
-    ((x >> 7) | (x << 25)) ^ ((x >> 18) | (x << 14)) ^ (x >> 3)
+    x.rotate_right(7) ^ x.rotate_right(18) ^ (x >> 3)
 }
 
 pub fn small_sigma1(x: u32) -> u32
     ensures { result ≡ σ₁ x }
 {
-    ((x >> 17) | (x << 15)) ^ ((x >> 19) | (x << 13)) ^ (x >> 10)
+    x.rotate_right(17) ^ x.rotate_right(19) ^ (x >> 10)
 }

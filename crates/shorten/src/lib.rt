@@ -51,7 +51,7 @@ pub struct Closing {
 pub fn below_least(limit: Option<usize>) -> bool
     ensures { result ≡ spec.below_least (limit_of limit) }
 {
-    matches!(limit, Some(most) if most < 4096)
+    limit.is_some_and(|most| most < 4096)
 }
 
 // The first `count` ids of the span, up to the shortest bound before the next id.

@@ -6,11 +6,7 @@ pub fn shift(list: &mut [u8], first: usize, end: usize, by: usize)
     requires { (first ≤ end) × (end + by ≤ length list.old) }
     ensures { list.new ≡ take (first + by) list.old ++ (take (end - first) (drop first list.old) ++ drop (end + by) list.old) }
 {
-    let mut i = end;
-    while first < i {
-        i -= 1;
-        list[i + by] = list[i];
-    }
+    list.copy_within(first..end, first + by);
 }
 
 // The id that begins a slice, written at a place.
@@ -18,9 +14,5 @@ pub fn put_id(list: &mut [u8], at: usize, id: &[u8])
     requires { (at + 32 ≤ length list.old) × (32 ≤ length id.now) }
     ensures { list.new ≡ take at list.old ++ (take 32 id.now ++ drop (at + 32) list.old) }
 {
-    let mut i = 0;
-    while i < 32 {
-        list[at + i] = id[i];
-        i += 1;
-    }
+    list[at..at + 32].copy_from_slice(&id[..32]);
 }

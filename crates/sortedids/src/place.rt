@@ -16,22 +16,21 @@ pub fn comes_before(list: &[u8], i: usize, id: &[u8], first: u64) -> bool
 {
     let p = i * 32;
     let other = word(list, p);
-    if other < first {
-        return true;
-    }
-    if first < other {
-        return false;
-    }
-    id_below(&list[p..], id)
+    other < first || other == first && id_below(&list[p..], id)
 }
 
 // How many of the first `size` ids come before the id that begins a slice, whose first eight bytes are `first`: its place among them, which lies from `lo` to `hi`.
-pub fn place_between(list: &[u8], size: usize, id: &[u8], first: u64, lo: usize, hi: usize) -> usize
+pub fn place_between(
+    list: &[u8],
+    size: usize,
+    id: &[u8],
+    first: u64,
+    mut lo: usize,
+    mut hi: usize,
+) -> usize
     requires { (size * 32 ≤ length list.now) × (32 ≤ length id.now) × (rising (map (big_endian 32) (ids_in size list.now)) ≡ true) × (first ≡ big_endian 8 id.now) × (lo ≤ below (take 32 id.now) (ids_in size list.now)) × (below (take 32 id.now) (ids_in size list.now) ≤ hi) × (hi ≤ size) }
     ensures { (result ≡ below (take 32 id.now) (ids_in size list.now)) × (result ≤ size) }
 {
-    let mut lo = lo;
-    let mut hi = hi;
     while lo < hi {
         let mid = lo + (hi - lo) / 2;
         if comes_before(list, mid, id, first) {
@@ -48,8 +47,5 @@ pub fn known(list: &[u8], size: usize, id: &[u8], first: u64, place: usize) -> b
     requires { (size * 32 ≤ length list.now) × (32 ≤ length id.now) × (rising (map (big_endian 32) (ids_in size list.now)) ≡ true) × (first ≡ big_endian 8 id.now) × (place ≡ below (take 32 id.now) (ids_in size list.now)) }
     ensures { result ≡ some (same (take 32 id.now)) (ids_in size list.now) }
 {
-    if size <= place {
-        return false;
-    }
-    stands_at(list, place * 32, id, first)
+    place < size && stands_at(list, place * 32, id, first)
 }

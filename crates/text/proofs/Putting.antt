@@ -71,13 +71,6 @@ put-behind t s out o₁ last n e h p q =
 pub length_part : (o : List ℕ) (n : ℕ) → length (rest n o) ≡ length o - n
 length_part o n = ap length (take_all (length o - n) (drop n o) (rw (length-drop n o) (omega arith))) ∙ length-drop n o
 
--- a part that begins behind the end, and one that ends there
-pub no_part : (m : List ℕ) (at n : ℕ) → length m ≤ at → [] ≡ take n (drop at m)
-no_part m at n h = rw (drop_of_length-le m h) (sym (take_all n [] (omega arith)))
-
-pub short_part : (m : List ℕ) (at n : ℕ) → length m - at ≤ n → take (length m - at) (drop at m) ≡ take n (drop at m)
-short_part m at n h = take_all (length m - at) (drop at m) (rw (length-drop at m) (omega arith)) ∙ sym (take_all n (drop at m) (rw (length-drop at m) h))
-
 -- ---- hex
 
 pub length-hex : (s : List ℕ) → length (hex s) ≡ length s * 2
@@ -138,9 +131,9 @@ pub put-end : (t out o₁ : List ℕ) (k x : ℕ) → k ≡ length t → length 
 put-end t out o₁ k x e h p = (sym (length-append t (x ∷ []) ∙ ap (λ (n : ℕ). n + 1) (sym e)), put_one t out o₁ k x e h p)
 
 -- a word, and a text put behind it
-pub word_put : (w t out o₁ last : List ℕ) (r : ℕ) → length w ≤ length out → o₁ ≡ put w out → r ≡ length t
-    → last ≡ put t (rest (length w) o₁) → (length w + r ≡ length (w ++ t)) × (joined (length w) o₁ last ≡ put (w ++ t) out)
-word_put w t out o₁ last r h p e q = (ap (λ (k : ℕ). length w + k) e ∙ sym (length-append w t), put-behind w t out o₁ last (length w) refl h p q)
+pub word_put : (w t out o₁ last : List ℕ) (k r : ℕ) → k ≡ length w → length w ≤ length out → o₁ ≡ put w out → r ≡ length t
+    → last ≡ put t (rest k o₁) → (k + r ≡ length (w ++ t)) × (joined k o₁ last ≡ put (w ++ t) out)
+word_put w t out o₁ last k r e h p f q = (omega (arith, length-append w t), put-behind w t out o₁ last k e h p q)
 
 -- `fingerprint`, `ids` and `refused`, each with a space
 abbrev pub fingerprint_word : List ℕ

@@ -16,24 +16,15 @@ fn digit(d: u8) -> u8
     requires { d < 16 }
     ensures { result ≡ spec.digit d }
 {
-    if d < 10 {
-        return b'0' + d;
-    }
-    b'a' - 10 + d
+    if d < 10 { b'0' + d } else { b'a' - 10 + d }
 }
 
 // The n bytes at place `at`, or as many of them as there are.
 fn part(m: &[u8], at: usize, n: usize) -> &[u8]
     ensures { result.now ≡ take n (drop at m.now) }
 {
-    if m.len() <= at {
-        return &m[..0];
-    }
-    if m.len() - at < n {
-        return &m[at..];
-    }
-    let end = at + n;
-    &m[at..end]
+    let rest = m.get(at..).unwrap_or(&[]);
+    &rest[..n.min(rest.len())]
 }
 
 // Writes s at the start of `out`, and answers how many bytes that are.
@@ -77,12 +68,9 @@ fn put_pairs(out: &mut [u8], s: &[u8])
     requires { length s.now * 2 ≤ length out.old }
     ensures { out.new ≡ put (spec.hex s.now) out.old }
 {
-    let mut i = 0;
-    while i < s.len() {
-        let b = s[i];
+    for (i, b) in s.iter().enumerate() {
         out[i * 2] = digit(b / 16);
         out[i * 2 + 1] = digit(b % 16);
-        i += 1;
     }
 }
 
@@ -104,11 +92,8 @@ fn put_time(out: &mut [u8], bound: Bound) -> usize
     ensures out_after { out.new ≡ put (spaced (spec.time_field (bound_of bound []))) out.old }
 {
     match bound {
-        Bound::Infinity => {
-            copy(b"inf ", out);
-            4
-        }
-        Bound::At { time, len: _ } => put_decimal(out, time, b' '),
+        Bound::Infinity => copy(b"inf ", out),
+        Bound::At { time, .. } => put_decimal(out, time, b' '),
     }
 }
 
@@ -117,11 +102,11 @@ fn put_prefix(out: &mut [u8], p: &[u8]) -> usize
     ensures value { (result ≡ length (spaced (spec.prefix_field p.now))) × (result ≤ 65) }
     ensures out_after { out.new ≡ put (spaced (spec.prefix_field p.now)) out.old }
 {
-    if p.len() == 0 {
-        copy(b"- ", out);
-        return 2;
+    if p.is_empty() {
+        copy(b"- ", out)
+    } else {
+        put_hex(out, p, b' ')
     }
-    put_hex(out, p, b' ')
 }
 
 fn put_fingerprint(out: &mut [u8], at: usize, m: &[u8]) -> usize
@@ -129,9 +114,8 @@ fn put_fingerprint(out: &mut [u8], at: usize, m: &[u8]) -> usize
     ensures value { (result ≡ length (payload_fields (payload_of (Payload.Fingerprint at) m.now))) × (result ≤ 45) }
     ensures out_after { out.new ≡ put (payload_fields (payload_of (Payload.Fingerprint at) m.now)) out.old }
 {
-    let f = part(m, at, 16);
-    copy(b"fingerprint ", out);
-    12 + put_hex(&mut out[12..], f, b'\n')
+    let k = copy(b"fingerprint ", out);
+    k + put_hex(&mut out[k..], part(m, at, 16), b'\n')
 }
 
 fn put_ids(out: &mut [u8], count: usize, at: usize, m: &[u8]) -> usize
@@ -139,8 +123,8 @@ fn put_ids(out: &mut [u8], count: usize, at: usize, m: &[u8]) -> usize
     ensures value { (result ≡ length (payload_fields (payload_of (Payload.Ids count at) m.now))) × (result ≤ 45) }
     ensures out_after { out.new ≡ put (payload_fields (payload_of (Payload.Ids count at) m.now)) out.old }
 {
-    copy(b"ids ", out);
-    4 + put_decimal(&mut out[4..], count as u64, b'\n')
+    let k = copy(b"ids ", out);
+    k + put_decimal(&mut out[k..], count as u64, b'\n')
 }
 
 fn put_payload(out: &mut [u8], payload: Payload, m: &[u8]) -> usize
@@ -149,10 +133,7 @@ fn put_payload(out: &mut [u8], payload: Payload, m: &[u8]) -> usize
     ensures out_after { out.new ≡ put (payload_fields (payload_of payload m.now)) out.old }
 {
     match payload {
-        Payload::Skip => {
-            copy(b"skip -\n", out);
-            7
-        }
+        Payload::Skip => copy(b"skip -\n", out),
         Payload::Fingerprint { at } => put_fingerprint(out, at, m),
         Payload::Ids { count, at } => put_ids(out, count, at, m),
     }
@@ -164,12 +145,9 @@ pub(crate) fn put_line(out: &mut [u8], range: Range, m: &[u8]) -> usize
     ensures value { (result ≡ length (spec.line (range_of range m.now))) × (result ≤ 131) }
     ensures out_after { out.new ≡ put (spec.line (range_of range m.now)) out.old }
 {
-    let bound = range.bound;
-    let beside = range.prefix;
-    let payload = range.payload;
-    let a = put_time(out, bound);
-    let b = a + put_prefix(&mut out[a..], bound.prefix(&beside));
-    b + put_payload(&mut out[b..], payload, m)
+    let a = put_time(out, range.bound);
+    let b = a + put_prefix(&mut out[a..], range.bound.prefix(&range.prefix));
+    b + put_payload(&mut out[b..], range.payload, m)
 }
 
 pub(crate) fn put_refusal(out: &mut [u8], n: u64) -> usize
@@ -177,6 +155,6 @@ pub(crate) fn put_refusal(out: &mut [u8], n: u64) -> usize
     ensures value { (result ≡ length (spec.refusal_line n)) × (result ≤ 131) }
     ensures out_after { out.new ≡ put (spec.refusal_line n) out.old }
 {
-    copy(b"refused ", out);
-    8 + put_decimal(&mut out[8..], n, b'\n')
+    let k = copy(b"refused ", out);
+    k + put_decimal(&mut out[k..], n, b'\n')
 }

@@ -8,8 +8,8 @@ ghost use Rattle.text.specs.Private.{Readable};
 
 use crate::{copy, put_line, put_refusal};
 use message::Range;
-use reader::check::{MessageRead, check_message};
-use reader::range::RangeCursor;
+use reader::check::check_message;
+use reader::range::{RangeCursor, RangeRead};
 
 // Room for the text of every message.
 pub const ROOM: usize = 655360;
@@ -35,10 +35,9 @@ fn put_ranges(out: &mut [u8], m: &[u8]) -> usize
     let mut cursor = RangeCursor::START;
     let mut n = 0;
     while cursor.at < m.len() {
-        let read = cursor.range(m);
-        let range = read.range;
+        // the message can be read, and so can each of its ranges
+        let RangeRead { range, next } = cursor.range(m).unwrap();
         n += put_range(&mut out[n..], range, m);
-        let next = read.next;
         cursor = next;
     }
     n
@@ -59,7 +58,7 @@ pub fn show(m: &[u8], out: &mut [u8]) -> usize
         return copy(b"too long\n", out);
     }
     match check_message(m) {
-        MessageRead::Refused { refusal } => put_refusal(out, refusal.number()),
-        MessageRead::Ranges { count: _ } => put_ranges(out, m),
+        Ok(_) => put_ranges(out, m),
+        Err(refusal) => put_refusal(out, refusal.number()),
     }
 }

@@ -13,8 +13,7 @@ use Rattle.table.specs.Private.{Passed}
 use Rattle.table.proofs.Tests.{or_false}
 use Rattle.table.proofs.Items.{right_size}
 use Rattle.table.proofs.Checks.{judged-refused}
-use Rattle.label.specs.Label.{empty}
-use Rattle.tree.specs.Tree.{Found, depth_of, depth_in, wrong_tree, none_free, tree_over, build, grown, appended, append, cut_to, visit, label_of_run, or_nothing}
+use Rattle.tree.specs.Tree.{Found, depth_of, depth_in, wrong_tree, none_free, tree_over, build, grown, appended, append, cut_to, visit, label_of_run}
 use Rattle.tree.specs.Private.{wrong_bytes, tree_fault, place_fault, append_fault}
 use Rattle.tree.proofs.Levels.{double}
 use Rattle.tree.proofs.Rising.{grown_fails}
@@ -190,17 +189,13 @@ module _ (tree : List ℕ) (from to : ℕ) where
   abbrev bad_sized : Bool
   bad_sized = not (eqb (length tree) (40 * (2 ^ (levels_in + 1) - 1)))
 
-  -- what the call answers, and what stands beside it
-  abbrev RunEnds : Answer (Unit {0}) → Found → Type 0
-  RunEnds told found = (told ≡ verdict_of (label_of_run tree from to)) × (found ≡ or_nothing (label_of_run tree from to))
-
-  pub run_refuses : bad_sized ≡ true → RunEnds (refused 13) (record { label = empty; visited = 0 })
+  pub run_refuses : bad_sized ≡ true → refused 13 ≡ label_of_run tree from to
   unfolding label_of_run depth_in wrong_tree
-  run_refuses e = rw e (refl, refl)
+  run_refuses e = rw e refl
 
-  pub run-answers : (f : Found) (levels places end : ℕ) → bad_sized ≡ false → levels ≡ levels_in → places ≡ 2 ^ levels_in → end ≡ cut_to places to → f ≡ visit tree from end levels 0 0 → RunEnds (answer tt) f
+  pub run-answers : (f : Found) (levels places end : ℕ) → bad_sized ≡ false → levels ≡ levels_in → places ≡ 2 ^ levels_in → end ≡ cut_to places to → f ≡ visit tree from end levels 0 0 → answer f ≡ label_of_run tree from to
   unfolding label_of_run depth_in wrong_tree
-  run-answers f levels places end e l s g p = rw e (refl, p ∙ ap₂ (λ (x y : ℕ). visit tree from x y 0 0) (g ∙ ap (λ (x : ℕ). cut_to x to) s) l)
+  run-answers f levels places end e l s g p = rw e (ap answer (p ∙ ap₂ (λ (x y : ℕ). visit tree from x y 0 0) (g ∙ ap (λ (x : ℕ). cut_to x to) s) l))
 
   pub run-size : bad_sized ≡ false → length tree ≡ 40 * (2 ^ (levels_in + 1) - 1)
   run-size e = eqb-true _ _ (not-false (eqb (length tree) (40 * (2 ^ (levels_in + 1) - 1))) e)

@@ -3,43 +3,26 @@
 #![tactic(auto)]
 
 use std::alloc::{AllocError, Global};
-use std::io;
+use std::{array, io};
 
-fn digit(n: u8) -> u8 {
-    if n < 10 {
-        return b'0' + n;
+fn print(rt: &impl Print, m: &[u8], name: &str) -> io::Result<()> {
+    for x in sha256::digest(m) {
+        print!(rt; "{x:02x}")?;
     }
-    if n < 16 {
-        return b'a' - 10 + n;
-    }
-    b'?'
-}
-
-fn print(rt: &impl Print, d: &[u8], name: &[u8]) -> io::Result<()> {
-    for x in d {
-        rt.write_all(&[digit(x / 16), digit(x % 16)])?;
-    }
-    rt.write_all(b"  ")?;
-    rt.write_all(name)?;
-    rt.write_all(b"\n")
+    println!(rt; "  {name}")
 }
 
 // Bytes that differ from their neighbours.
 fn pattern() -> [u8; 130] {
-    let mut p = [0u8; 130];
-    for i in 0..130 {
-        p[i] = ((i * 7 + 3) % 256) as u8;
-    }
-    p
+    array::from_fn(|i| ((i * 7 + 3) % 256) as u8)
 }
 
 // The digests of the first 0, 1, .. and 130 bytes of the pattern, one behind the other.
 fn all_lengths() -> [u8; 4192] {
     let p = pattern();
-    let mut all = [0u8; 4192];
-    for i in 0..4192 {
-        let d = sha256::digest(&p[..i / 32]);
-        all[i] = d[i % 32];
+    let mut all = [0; 4192];
+    for n in 0..131 {
+        all[32 * n..32 * n + 32].copy_from_slice(&sha256::digest(&p[..n]));
     }
     all
 }
@@ -49,21 +32,13 @@ fn million(alloc: Global) -> Result<Vec<u8>, AllocError> {
 }
 
 fn main(rt: HostRuntime) -> io::Result<()> {
-    print(&rt, &sha256::digest(b""), b"empty")?;
-    print(&rt, &sha256::digest(b"abc"), b"abc")?;
+    print(&rt, b"", "empty")?;
+    print(&rt, b"abc", "abc")?;
     let m448 = b"abcdbcdecdefdefgefghfghighijhijkijkljklmklmnlmnomnopnopq";
-    print(&rt, &sha256::digest(m448), b"448 bits")?;
+    print(&rt, m448, "448 bits")?;
     let m896 =
         b"abcdefghbcdefghicdefghijdefghijkefghijklfghijklmghijklmnhijklmnoijklmnopjklmnopqklmnopqrlmnopqrsmnopqrstnopqrstu";
-    print(&rt, &sha256::digest(m896), b"896 bits")?;
-    print(
-        &rt,
-        &sha256::digest(&million(rt.alloc())?),
-        b"a million times a",
-    )?;
-    print(
-        &rt,
-        &sha256::digest(&all_lengths()),
-        b"the digests of 131 lengths",
-    )
+    print(&rt, m896, "896 bits")?;
+    print(&rt, &million(rt.alloc())?, "a million times a")?;
+    print(&rt, &all_lengths(), "the digests of 131 lengths")
 }

@@ -1,4 +1,5 @@
 -- One range more with its own items, and the walk before the first range.
+use Rattle.std.proofs.Common.{Ok}
 use Prim.Native.Nat.{ℕ, ◌≤◌, ◌<◌}
 use mathlib.Core.Path.{◌≡◌, refl, sym, ap, ◌∙◌}
 use mathlib.Core.Bool.{Bool, false}
@@ -53,7 +54,7 @@ step_to w r hi = record {
 }
 
 module _ (T : Table) (m : List ℕ) (w : Walk) (ok : Passed T) (bytes : Bytes m) (inside : w.cursor.at < length m) (walking : Walking T m w)
-    (r : RangeRead) (answer : ReadAt m w.cursor r)
+    (r : RangeRead) (answer : ReadAt m w.cursor (Ok r))
     (hi : ℕ) (place : hi ≡ place_of (bound_of r.range.bound r.range.prefix) (items T)) (fits : hi ≤ length T.times) where
   next : Next m w.cursor r
   next = next-range m w.cursor r bytes inside walking.reads answer

@@ -8,7 +8,7 @@ ghost use Rattle.walk.specs.Walking.{starts, Walking, Stepped};
 
 use cutting::Span;
 use message::Payload;
-use reader::range::RangeCursor;
+use reader::range::{RangeCursor, RangeRead};
 use table::search::first_at_or_above;
 
 // Where a walk stands: the cursor in the message, and the place in the table of the bound before it.
@@ -40,28 +40,22 @@ impl Walk {
         requires { Passed (lent times.now ids.now) × Walking (lent times.now ids.now) m.now self × (self.cursor.at < length m.now) }
         ensures { Stepped (lent times.now ids.now) m.now self result }
     {
-        let cursor = self.cursor;
-        let read = cursor.range(m);
-        let range = read.range;
-        let bound = range.bound;
+        // the message was checked, so its ranges can be read
+        let RangeRead { range, next } = self.cursor.range(m).unwrap();
+        let hi = first_at_or_above(times, ids, range.bound, &range.prefix);
         let prefix = range.prefix;
-        let payload = range.payload;
-        let next = read.next;
-        let hi = first_at_or_above(times, ids, bound, &prefix);
-        let span = Span {
-            lo: self.lo,
-            hi,
-            bound,
-            prefix,
-        };
-        let walk = Walk {
-            cursor: next,
-            lo: hi,
-        };
         Step {
-            span,
-            payload,
-            next: walk,
+            span: Span {
+                lo: self.lo,
+                hi,
+                bound: range.bound,
+                prefix,
+            },
+            payload: range.payload,
+            next: Walk {
+                cursor: next,
+                lo: hi,
+            },
         }
     }
 }

@@ -6,6 +6,7 @@ use mathlib.Core.List.{List, [], ◌∷◌, ◌++◌, map}
 use mathlib.Core.Logic.{inl, inr, ⊎_elim}
 use native.Mathlib.Nat.{le_refl, mul-le-mul_right}
 use native.Mathlib.Omega.{arith}
+use Rattle.std.proofs.Common.{Some, None}
 use native.Mathlib.Numerals.{add-one}
 use lib.Dec.{leb, ltb, eqb}
 use lib.ListN.{length, take, drop, get_or, set, length-drop, length-set, take-append-drop}
@@ -13,16 +14,19 @@ use lib.Seq.{get_or-set_same, get_or-set_other, length-take-le, take-append-le, 
 use borrow.Author.Tests.{lt-ltb, le-ltb, ltb-true, ltb-false, leb-true, leb-false, le-leb, lt-leb, eqb-true, eqb-false, eq-eqb}
 use Rattle.message.specs.Bound.{big_endian}
 use Rattle.message.specs.Code.{ids_in}
+use Rattle.message.specs.Bound as B
+use Rattle.message.specs.Code.{payload_of}
 use Rattle.message.specs.declared.Payload.{Payload}
+use Rattle.message.specs.declared.Payload.TheVariants.{Skip, Fingerprint, Ids}
+use Rattle.ends.specs.Opener.{unowned}
 use Rattle.message.proofs.Exact.{by_test, differ}
 use Rattle.message.proofs.Order.{Small, small-drop, big_endian-small}
 use Rattle.theory.specs.Table.{has}
-use Rattle.theory.proofs.Tests.{clash}
 use Rattle.theory.proofs.Tables.{has_cases, has_here, has_there}
 use Rattle.reader.specs.Private.{lower_at}
 use Rattle.reader.proofs.Listing.{part-from}
 use Rattle.table.specs.Lists.{keep}
-use Rattle.table.specs.Table.{Table, items}
+use Rattle.table.specs.Table.{Item, Table, items}
 use Rattle.table.proofs.Words.{big_endian-take, parts}
 use Rattle.cutting.specs.Private.{upper_of}
 use Rattle.ends.specs.Lists.{some, same}
@@ -36,7 +40,7 @@ use Rattle.index.specs.Sorting.{Worded, Heap, Rearranged, Distinct}
 use Rattle.index.proofs.Heaps.{by-same, same_key, pointing_kept, keys_kept, keys_from, heap_top}
 use Rattle.window.specs.declared.Interval.{Interval}
 use Rattle.window.specs.Windows.{word_span, Limits, Within, limits, Floored, Capped, wants, Held, among, beyond, Inside, Placed, Offered, picked_at, Picked, Picking, FoundAt, Gathering, Gathered, Windowed}
-use Rattle.walk.proofs.Adding.{lacks, list_adds, unowned-span, range_adds, added_next, added_ends, list_from, list-whole, list-none, list-next}
+use Rattle.walk.proofs.Adding.{skip_adds, fingerprint_adds, lacks, list_adds, unowned-span, range_adds, added_next, added_ends, list_from, list-whole, list-none, list-next}
 
 -- the ids as numbers
 abbrev numbers : List (List ℕ) → List ℕ
@@ -405,19 +409,18 @@ found-told own m bytes picks start owned count found k h i l = rw (part-from own
 
 -- ---- the ranges of a message
 
-pub none-placed : (m words pos : List ℕ) → Placed m words pos 0
-none-placed m words pos = record { few = omega arith; points = λ k l. absurd (omega arith); worded = λ k l. absurd (omega arith); heap = λ e. absurd (omega arith) }
-
-pub none_gathered : (m : List ℕ) (all : List (List ℕ)) (f : Limits) (pos : List ℕ) → Gathering m all all f pos 0
-none_gathered m all f pos = record { left = λ x e. e; from = λ k l. absurd (omega arith); holds = λ x e l. inl e }
+no-list-adds : (is : List Item) (x y : B.Bound) (m : List ℕ) (p : Payload) → ((count at : ℕ) → p ≡ Payload.Ids count at → ⊥) → unowned is x y (payload_of p m) ≡ []
+no-list-adds is x y m Skip h = skip_adds is x y m Skip refl
+no-list-adds is x y m (Fingerprint at) h = fingerprint_adds is x y m (Fingerprint at) at refl
+no-list-adds is x y m (Ids count at) h = absurd (h count at refl)
 
 module _ (T : Table) (m : List ℕ) (w : Walk) (all : List (List ℕ)) (f : Limits) (pos : List ℕ) (n : ℕ) (g : Gathering m all (added_from T m w) f pos n) where
   module _ (s : Step) (k : Stepped T m w s) where
     step_left : (us : List (List ℕ)) → range_adds T m w s ≡ us → Gathering m all (us ++ added_from T m s.next) f pos n
     step_left us e = rw (added_next T m w s k, e) at g
 
-    pub none_left : range_adds T m w s ≡ [] → Gathering m all (added_from T m s.next) f pos n
-    none_left = step_left []
+    pub none_left : ((count at : ℕ) → s.payload ≡ Payload.Ids count at → ⊥) → Gathering m all (added_from T m s.next) f pos n
+    none_left h = step_left [] (no-list-adds (items T) (lower_at w.cursor) (upper_of s.span) m s.payload h)
 
     pub ids-left : (count at : ℕ) → s.payload ≡ Payload.Ids count at
         → Gathering m all (others T.ids s.span (ids_in count (drop at m)) ++ added_from T m s.next) f pos n
@@ -442,15 +445,16 @@ module _ (T : Table) (m : List ℕ) (w : Walk) (all : List (List ℕ)) (f : Limi
 
 -- ---- a ceiling
 
-module _ (m : List ℕ) (i : Interval) (h : Floored i m) where
-  -- there is none
-  pub not_capped : i.capped ≡ false → Capped m i i
-  not_capped e = record { floored = h; from = refl; whole = λ t. refl; part = λ t. clash t e }
-
-  -- it is the id at place p
+module _ (m : List ℕ) (i : Interval) (h : Floored i m) (none : i.ceiling ≡ None) where
+  -- the id at place p is the ceiling
   pub capped_at : (p : ℕ) → p + 32 ≤ length m → Within (limits i m) (big_endian 32 (drop p m))
-      → Capped m i (record { low = i.low; last = i.last; first = i.first; floor = i.floor; capped = true; ceiling = p })
-  capped_at p inside within = record { floored = record { floor = h.floor; ceiling = λ t. inside }; from = refl; whole = λ t. clash refl t; part = λ t. within }
+      → Capped m i (record { low = i.low; last = i.last; floor = i.floor; ceiling = Some p })
+  capped_at p inside within = record {
+    floored = record { floor = h.floor; ceiling = λ q t. let e : p ≡ q = cc in rw (← e) inside };
+    from = refl;
+    whole = λ t. cc;
+    part = λ q t. let e : p ≡ q = cc in rw (← e) within;
+  }
 
 -- ---- a window
 

@@ -1,5 +1,5 @@
 -- For contracts of functions that only our own crates call: the smallest of the ids `all` that a reply adds, within the limits f.
-use Rattle.std.specs.Prelude.{ℕ, zero, suc, ◌+◌, ◌-◌, ◌*◌, ◌^◌, ◌≤◌, ◌<◌, ◌≡◌, Bool, true, false, cond, ◌&&◌, ◌||◌, List, [], ◌∷◌, map, ◌⊎◌, leb, ltb, length, take, drop, get_or}
+use Rattle.std.specs.Prelude.{ℕ, zero, suc, ◌+◌, ◌-◌, ◌*◌, ◌^◌, ◌≤◌, ◌<◌, ◌≡◌, Bool, true, cond, Option, Some, None, ◌&&◌, ◌||◌, List, [], ◌∷◌, map, ◌⊎◌, leb, ltb, length, take, drop, get_or}
 use Rattle.message.specs.Bound.{big_endian}
 use Rattle.theory.specs.Table.{has}
 use Rattle.ends.specs.Lists.{some, same}
@@ -20,24 +20,29 @@ pub record Limits : Type 0 where
 abbrev pub Within : Limits → ℕ → Type 0
 Within f x = (f.from ≤ x) × (x < f.to)
 
+-- the number behind that of the id at a place, or n where no place is given
+abbrev pub behind_or : ℕ → Option ℕ → List ℕ → ℕ
+behind_or n None m = n
+behind_or n (Some p) m = suc (big_endian 32 (drop p m))
+
 -- those of the ids that a window may have
 abbrev pub limits : Interval → List ℕ → Limits
 limits i m = record {
-  from = cond i.first (i.low * word_span) (suc (big_endian 32 (drop i.floor m)));
-  to = cond i.capped (suc (big_endian 32 (drop i.ceiling m))) ((i.last + 1) * word_span);
+  from = behind_or (i.low * word_span) i.floor m;
+  to = behind_or ((i.last + 1) * word_span) i.ceiling m;
 }
 
--- a whole id stands at place `floor` unless the window is the first, and at place `ceiling` where it is capped
+-- whole ids stand at the places `floor` and `ceiling` where there are any
 pub record Floored (i : Interval) (m : List ℕ) : Type 0 where
-  pub floor : i.first ≡ false → i.floor + 32 ≤ length m
-  pub ceiling : i.capped ≡ true → i.ceiling + 32 ≤ length m
+  pub floor : (p : ℕ) → i.floor ≡ Some p → p + 32 ≤ length m
+  pub ceiling : (p : ℕ) → i.ceiling ≡ Some p → p + 32 ≤ length m
 
 -- the interval r is i, or the part of i up to one of its ids
 pub record Capped (m : List ℕ) (i r : Interval) : Type 0 where
   pub floored : Floored r m
   pub from : (limits r m).from ≡ (limits i m).from
-  pub whole : r.capped ≡ false → (limits r m).to ≡ (limits i m).to
-  pub part : r.capped ≡ true → Within (limits i m) (big_endian 32 (drop r.ceiling m))
+  pub whole : r.ceiling ≡ None → (limits r m).to ≡ (limits i m).to
+  pub part : (p : ℕ) → r.ceiling ≡ Some p → Within (limits i m) (big_endian 32 (drop p m))
 
 -- whether the number x belongs to the n smallest within the limits f: there is room, or it is below the largest
 abbrev pub wants : Limits → ℕ → ℕ → ℕ → Bool

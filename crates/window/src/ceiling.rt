@@ -1,6 +1,6 @@
 // A ceiling for the windows of a single word, which may have more listed ids than a window has room for. Without it nearly every id of a falling list would be
 // wanted for a while, and be looked up, in each window anew.
-ghost use Rattle.std.specs.Prelude.{◌+◌, ◌*◌, ◌≤◌, ◌≡◌, false, length};
+ghost use Rattle.std.specs.Prelude.{◌+◌, ◌*◌, ◌≤◌, ◌≡◌, length};
 ghost use Rattle.table.specs.Code.{lent};
 ghost use Rattle.table.specs.Private.{Passed};
 ghost use Rattle.walk.specs.Walking.{starts, Walking};
@@ -25,10 +25,8 @@ fn offer_list(
     ensures { Placed m.now words.new pos.new result × (Inside (limits interval m.now) m.now pos.old n → Inside (limits interval m.now) m.now pos.new result) }
 {
     let mut n = n;
-    let mut i = 0;
-    while i < count {
+    for i in 0..count {
         n = offer_unless(m, interval, words, pos, n, at + i * 32, 0);
-        i += 1;
     }
     n
 }
@@ -49,14 +47,9 @@ fn smallest_listed(
     let mut walk = Walk::start();
     while walk.cursor.at < m.len() {
         let step = walk.step(m, times, own);
-        let payload = step.payload;
         walk = step.next;
-        match payload {
-            Payload::Skip => {}
-            Payload::Fingerprint { at: _ } => {}
-            Payload::Ids { count, at } => {
-                n = offer_list(m, count, at, interval, words, pos, n);
-            }
+        if let Payload::Ids { count, at } = step.payload {
+            n = offer_list(m, count, at, interval, words, pos, n);
         }
     }
     n
@@ -72,7 +65,7 @@ pub fn cap(
     words: &mut [u64],
     pos: &mut [usize],
 ) -> Interval
-    requires { Passed (lent times.now own.now) × Walking (lent times.now own.now) m.now starts × Floored interval m.now × (interval.capped ≡ false) × (length words.old ≡ 11008) × (length pos.old ≡ 11008) }
+    requires { Passed (lent times.now own.now) × Walking (lent times.now own.now) m.now starts × Floored interval m.now × (interval.ceiling ≡ None) × (length words.old ≡ 11008) × (length pos.old ≡ 11008) }
     ensures { Capped m.now interval result }
 {
     if interval.low < interval.last {
@@ -83,11 +76,7 @@ pub fn cap(
         return interval;
     }
     Interval {
-        low: interval.low,
-        last: interval.last,
-        first: interval.first,
-        floor: interval.floor,
-        capped: true,
-        ceiling: pos[0],
+        ceiling: Some(pos[0]),
+        ..interval
     }
 }

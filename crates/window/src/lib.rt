@@ -19,16 +19,14 @@ pub mod ceiling;
 mod select;
 pub mod spread;
 
-// The ids that a window may have: their words are from `low` to `last`, they are above the id at place `floor` unless it is the `first` window of the interval,
-// and, where it is `capped`, no higher than the id at place `ceiling`.
+// The ids that a window may have: their words are from `low` to `last`, they are above the id at place `floor`, which the first window of an interval does not
+// have, and no higher than the id at place `ceiling`, where there is one.
 #[derive(Clone, Copy)]
 pub struct Interval {
     pub low: u64,
     pub last: u64,
-    pub first: bool,
-    pub floor: usize,
-    pub capped: bool,
-    pub ceiling: usize,
+    pub floor: Option<usize>,
+    pub ceiling: Option<usize>,
 }
 
 // How many ids the window has, and whether there may be more behind it.

@@ -30,13 +30,7 @@ fn comes_before(m: &[u8], p: usize, v: u64, q: usize, w: u64) -> bool
     requires { (p + 32 ≤ length m.now) × (q + 32 ≤ length m.now) × (v ≡ big_endian 8 (drop p m.now)) × (w ≡ big_endian 8 (drop q m.now)) }
     ensures { result ≡ ltb (big_endian 32 (drop p m.now)) (big_endian 32 (drop q m.now)) }
 {
-    if v < w {
-        return true;
-    }
-    if w < v {
-        return false;
-    }
-    id_below(&m[p..], &m[q..])
+    v < w || v == w && id_below(&m[p..], &m[q..])
 }
 
 // Whether the id at place p, whose first eight bytes are v, is not below those of the interval.
@@ -44,11 +38,10 @@ fn reaches(m: &[u8], interval: Interval, p: usize, v: u64) -> bool
     requires { (p + 32 ≤ length m.now) × Floored interval m.now × (v ≡ big_endian 8 (drop p m.now)) }
     ensures { result ≡ leb (limits interval m.now).from (big_endian 32 (drop p m.now)) }
 {
-    if interval.first {
-        return interval.low <= v;
+    match interval.floor {
+        None => interval.low <= v,
+        Some(floor) => comes_before(m, floor, word(m, floor), p, v),
     }
-    let floor = interval.floor;
-    comes_before(m, floor, word(m, floor), p, v)
 }
 
 // Whether the id at place p, whose first eight bytes are v, is not above those of the interval.
@@ -56,11 +49,10 @@ fn stays(m: &[u8], interval: Interval, p: usize, v: u64) -> bool
     requires { (p + 32 ≤ length m.now) × Floored interval m.now × (v ≡ big_endian 8 (drop p m.now)) }
     ensures { result ≡ ltb (big_endian 32 (drop p m.now)) (limits interval m.now).to }
 {
-    if interval.capped {
-        let ceiling = interval.ceiling;
-        return !comes_before(m, ceiling, word(m, ceiling), p, v);
+    match interval.ceiling {
+        None => v <= interval.last,
+        Some(ceiling) => !comes_before(m, ceiling, word(m, ceiling), p, v),
     }
-    v <= interval.last
 }
 
 // Whether the id at place p belongs to the n smallest so far: it is one of the interval, and there is room or it is below the largest.
@@ -69,16 +61,9 @@ fn wanted(m: &[u8], interval: Interval, words: &[u64], pos: &[usize], n: usize, 
     ensures { result ≡ wants (limits interval m.now) (big_endian 32 (drop p m.now)) n (key_at m.now pos.now 0) }
 {
     let v = word(m, p);
-    if !stays(m, interval, p, v) {
-        return false;
-    }
-    if !reaches(m, interval, p, v) {
-        return false;
-    }
-    if n < 11008 {
-        return true;
-    }
-    comes_before(m, p, v, pos[0], words[0])
+    stays(m, interval, p, v)
+        && reaches(m, interval, p, v)
+        && (n < 11008 || comes_before(m, p, v, pos[0], words[0]))
 }
 
 // Takes the place p in, for the largest where there is no more room; how many places there are then.
@@ -115,13 +100,11 @@ pub(crate) fn offer_unless(
     requires { (p + 32 ≤ length m.now) × Floored interval m.now × (length words.old ≡ 11008) × (length pos.old ≡ 11008) × Placed m.now words.old pos.old n }
     ensures { Placed m.now words.new pos.new result × ((all rest : List (List ℕ)) → Gathering m.now all (cond (eqb found 0) (take 32 (drop p m.now) ∷ rest) rest) (limits interval m.now) pos.old n → Gathering m.now all rest (limits interval m.now) pos.new result) × (Inside (limits interval m.now) m.now pos.old n → Inside (limits interval m.now) m.now pos.new result) }
 {
-    if found != 0 {
-        return n;
+    if found == 0 && wanted(m, interval, words, pos, n, p) {
+        offer(m, words, pos, n, p)
+    } else {
+        n
     }
-    if !wanted(m, interval, words, pos, n, p) {
-        return n;
-    }
-    offer(m, words, pos, n, p)
 }
 
 // The same for the first `count` places of `picks`, each with its own byte of `found`.
@@ -139,24 +122,10 @@ fn offer_picked(
     ensures { Placed m.now words.new pos.new result × ((o all rest : List (List ℕ)) → FoundAt o found.now m.now picks.now count → Gathering m.now all (without o (picked_at m.now picks.now count) ++ rest) (limits interval m.now) pos.old n → Gathering m.now all rest (limits interval m.now) pos.new result) }
 {
     let mut n = n;
-    let mut k = count;
-    while 0 < k {
-        k -= 1;
+    for k in (0..count).rev() {
         n = offer_unless(m, interval, words, pos, n, picks[k], found[k]);
     }
     n
-}
-
-// The id that begins a slice, written at a place.
-fn copy_id(ids: &mut [u8], at: usize, id: &[u8])
-    requires { (at + 32 ≤ length ids.old) × (32 ≤ length id.now) }
-    ensures { ids.new ≡ take at ids.old ++ (take 32 id.now ++ drop (at + 32) ids.old) }
-{
-    let mut i = 0;
-    while i < 32 {
-        ids[at + i] = id[i];
-        i += 1;
-    }
 }
 
 // Adds the place p to k picked ones where its id is wanted, with the bytes of the id; how many there are then.
@@ -177,7 +146,7 @@ fn pick_id(
     if !wanted(m, interval, words, pos, n, p) {
         return k;
     }
-    copy_id(ids, k * 32, &m[p..]);
+    ids[k * 32..k * 32 + 32].copy_from_slice(&m[p..p + 32]);
     picks[k] = p;
     k + 1
 }
@@ -199,16 +168,17 @@ fn pick(
     requires { (at + count * 32 ≤ length m.now) × (start < count) × Floored interval m.now × (length words.now ≡ 11008) × (length pos.now ≡ 11008) × Placed m.now words.now pos.now n × (0 < length picks.old) × (length picks.old * 32 ≤ length ids.old) }
     ensures { (start < result.next) × (result.next ≤ count) × Picked m.now ids.new picks.new result.count × ((o all rest : List (List ℕ)) → Gathering m.now all (without o (ids_in (count - start) (drop (at + start * 32) m.now)) ++ rest) (limits interval m.now) pos.now n → Gathering m.now all (without o (picked_at m.now picks.new result.count) ++ (without o (ids_in (count - result.next) (drop (at + result.next * 32) m.now)) ++ rest)) (limits interval m.now) pos.now n) }
 {
-    let mut next = start;
     let mut k = 0;
-    while next < count {
+    for next in start..count {
         if picks.len() <= k {
             return Picks { next, count: k };
         }
         k = pick_id(m, interval, words, pos, n, at + next * 32, ids, picks, k);
-        next += 1;
     }
-    Picks { next, count: k }
+    Picks {
+        next: count,
+        count: k,
+    }
 }
 
 // Takes in those of `count` picked ids that are still wanted and that no own item of the range has.
@@ -293,18 +263,12 @@ pub(crate) fn gather(
     let mut walk = Walk::start();
     while walk.cursor.at < m.len() {
         let step = walk.step(m, times, own);
-        let span = step.span;
-        let payload = step.payload;
         walk = step.next;
-        match payload {
-            Payload::Skip => {}
-            Payload::Fingerprint { at: _ } => {}
-            Payload::Ids { count, at } => {
-                n = gather_list(
-                    own, m, span, count, at, interval, words, pos, keys, places, found, ids, picks,
-                    n,
-                );
-            }
+        if let Payload::Ids { count, at } = step.payload {
+            n = gather_list(
+                own, m, step.span, count, at, interval, words, pos, keys, places, found, ids,
+                picks, n,
+            );
         }
     }
     n

@@ -5,18 +5,16 @@ use Rattle.message.specs.declared.Bound.{Bound}
 use Rattle.capi.specs.Calls.{bound_by}
 use Rattle.capi.proofs.recon_fingerprint.Goals as goal
 
-pub returns-in-Refused : goal.returns-in-Refused
-returns-in-Refused c =
+pub returns-in-Ok : goal.returns-in-Ok
+returns-in-Ok c =
     let upper : Bound = bound_by c.args.upper_infinite c.args.upper_time (length c.args.upper_prefix.now) in
     let x = c.bound-lower.ensures in
     let y : c.bound-upper.result ≡ upper = c.bound-upper.ensures in
-    let f = c.fingerprint-answer.ensures.result_value in
-    record { value = rw (← x, ← y, ← f, c.in-Refused.is, c.number.ensures) refl; out_after = rw (← x, ← y, ← f, c.in-Refused.is) refl }
+    record { value = rw (← x, ← y, ← c.in-Ok.ensures) refl; out_after = rw (← x, ← y, ← c.in-Ok.ensures) refl }
 
-pub returns-in-Passed : goal.returns-in-Passed
-returns-in-Passed c =
+pub returns-in-Err : goal.returns-in-Err
+returns-in-Err c =
     let upper : Bound = bound_by c.args.upper_infinite c.args.upper_time (length c.args.upper_prefix.now) in
     let x = c.bound-lower.ensures in
     let y : c.bound-upper.result ≡ upper = c.bound-upper.ensures in
-    let f = c.fingerprint-answer.ensures.result_value in
-    record { value = rw (← x, ← y, ← f, c.in-Passed.is) refl; out_after = rw (← x, ← y, ← f, c.in-Passed.is) refl }
+    record { value = rw (← x, ← y, ← c.in-Err.ensures) c.number.ensures; out_after = rw (← x, ← y, ← c.in-Err.ensures) refl }

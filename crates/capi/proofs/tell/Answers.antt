@@ -2,8 +2,8 @@
 use mathlib.Core.Path.{refl}
 use Rattle.capi.proofs.tell.Goals as goal
 
-pub returns-in-Written : goal.returns-in-Written
-returns-in-Written c = rw c.in-Written.is refl
+pub returns-in-Ok : goal.returns-in-Ok
+returns-in-Ok c = rw c.in-Ok.is refl
 
-pub returns-in-Refused : goal.returns-in-Refused
-returns-in-Refused c = rw (c.in-Refused.is, c.number.ensures) refl
+pub returns-in-Err : goal.returns-in-Err
+returns-in-Err c = rw (c.in-Err.is, c.number.ensures) refl

@@ -1,25 +1,12 @@
--- `marks::some_above_one` meets its contract. The invariant: the marks that are left decide.
-use mathlib.Core.Path.{refl, sym, ◌∙◌}
-use native.Mathlib.Omega.{arith}
+-- `marks::some_above_one` meets its contract.
+use Rattle.std.proofs.Common.{◌∙◌, rules, tests}
+use Rattle.std.proofs.lemmas.Iterator.{YieldsList-from_slice}
+use Rattle.std.proofs.lemmas.Iterator.Search.{any_from_yields_List}
 use lib.Dec.{ltb}
-use borrow.Author.Tests.{lt-ltb, le-ltb}
-use Rattle.marks.proofs.Marking.{some-here, some-later, some-none}
+use Rattle.marks.proofs.Marking.{some-list_any}
 use Rattle.marks.proofs.some_above_one.Goals as goal
-
-pub loop-i-init : goal.loop-i-init
-loop-i-init c = (omega arith, refl)
-
-pub returns-then-marks-i-gt1 : goal.returns-then-marks-i-gt1
-returns-then-marks-i-gt1 c =
-    let l = c.loop-i in
-    sym (l.invariant.1 ∙ some-here (ltb 1) _ l.i (omega arith) (lt-ltb _ _ c.if-marks-i-gt1.true))
-
-pub loop-i-preserved : goal.loop-i-preserved
-loop-i-preserved c =
-    let l = c.loop-i in
-    (omega arith, l.invariant.1 ∙ some-later (ltb 1) _ l.i (omega arith) (le-ltb _ _ c.if-marks-i-gt1.false))
 
 pub returns : goal.returns
 returns c =
-    let l = c.loop-i in
-    sym (l.invariant.1 ∙ some-none (ltb 1) _ l.i (omega arith))
+    let m = c.args.marks.now in
+    any_from_yields_List (ltb 1) _ _ _ c.any.ensures.ran (YieldsList-from_slice m cc) (λ x b q k. search (rules, tests)) ∙ some-list_any (ltb 1) m

@@ -1,28 +1,22 @@
 -- `merging::item_below` meets its contract: the times decide, and among equal times the ids.
-use mathlib.Core.Path.{◌≡◌, sym, ◌∙◌}
+use mathlib.Core.Path.{sym, ◌∙◌}
 use native.Mathlib.Omega.{arith}
-use lib.ListN.{get_or}
+use borrow.Author.Tests.{lt-ltb, ne_eqb}
 use Rattle.table.specs.Code.{lent}
-use Rattle.table.specs.Table.{Table}
 use Rattle.table.proofs.Keys.{item_less, item-more, item_level}
 use Rattle.merging.proofs.item_below.Goals as goal
 
-pub returns-then-first-second : goal.returns-then-first-second
-returns-then-first-second c =
-    let one : Table = lent c.args.t.now c.args.p.now in
-    let other : Table = lent c.args.u.now c.args.q.now in
-    sym (item_less (one) (other) c.args.i c.args.j (λ k. omega (arith, c.type_inv.p k)) c.if-first-second.true)
-
-pub returns-then-second-first : goal.returns-then-second-first
-returns-then-second-first c =
-    let one : Table = lent c.args.t.now c.args.p.now in
-    let other : Table = lent c.args.u.now c.args.q.now in
-    sym (item-more (one) (other) c.args.i c.args.j (λ k. omega (arith, c.type_inv.q k)) c.if-second-first.true)
-
-pub returns : goal.returns
-returns c =
-    let one : Table = lent c.args.t.now c.args.p.now in
-    let other : Table = lent c.args.u.now c.args.q.now in
+pub returns-then-t-i : goal.returns-then-t-i
+returns-then-t-i c =
     let a = c.args in
-    let same : get_or a.t.now a.i 0 ≡ get_or a.u.now a.j 0 = omega (arith, c.if-first-second.false, c.if-second-first.false) in
-    c.id_below.ensures ∙ sym (item_level (one) (other) c.args.i c.args.j same)
+    lt-ltb _ _ c.if-t-i.true ∙ sym (item_less (lent a.t.now a.p.now) (lent a.u.now a.q.now) a.i a.j (λ k. omega (arith, c.type_inv.p k)) c.if-t-i.true)
+
+pub returns-then-t-i-2 : goal.returns-then-t-i-2
+returns-then-t-i-2 c =
+    let a = c.args in
+    c.id_below.ensures ∙ sym (item_level (lent a.t.now a.p.now) (lent a.u.now a.q.now) a.i a.j c.if-t-i-2.true)
+
+pub returns-else-t-i-2 : goal.returns-else-t-i-2
+returns-else-t-i-2 c =
+    let a = c.args in
+    ne_eqb _ _ c.if-t-i-2.false ∙ sym (item-more (lent a.t.now a.p.now) (lent a.u.now a.q.now) a.i a.j (λ k. omega (arith, c.type_inv.q k)) (omega (arith, c.if-t-i.false, c.if-t-i-2.false)))

@@ -1,14 +1,20 @@
 -- `sha256::last_blocks` meets its contract. Assumes nothing.
-use Rattle.std.proofs.Common.{arith}
-use Rattle.sha256.proofs.Padding.{rest_law}
+use Rattle.std.proofs.Common.{◌≡◌, ℕ, List, ◌≤◌, length, ◌∙◌, arith}
+use Rattle.sha256.specs.Private.{rest}
+use Rattle.sha256.proofs.Padding.{length_rest, rest_law}
 use Rattle.sha256.proofs.last_blocks.Goals as goal
-
-pub returns-then-n-lt56 : goal.returns-then-n-lt56
-returns-then-n-lt56 c =
-    rest_law c.args.m.now c.last_bytes-b.result c.with_length.result 56 (omega arith) (omega arith)
-    c.last_bytes-b.ensures c.with_length.ensures
+use Rattle.sha256.proofs.last_blocks.Goals.{then-n-lt56, else-n-lt56}
 
 pub returns : goal.returns
 returns c =
-    rest_law c.args.m.now c.last_bytes-b.result c.with_length-2.result 120 (omega arith) (omega arith)
-    c.last_bytes-b.ensures c.with_length-2.ensures
+    let m : List ℕ = c.args.m.now in
+    let e : c.if-n-lt56.end ≡ length (rest m) = elim c.if-n-lt56.branch [
+      | then-n-lt56 w ↦ omega (arith, length_rest m)
+      | else-n-lt56 w ↦ omega (arith, length_rest m)
+    ] in
+    let h : c.if-n-lt56.end ≤ 128 = omega (arith, length_rest m) in record {
+      bytes = rw c.copy_from_slice.ensures.after
+          (rest_law m c.as_chunks.result.1.now c.copy_from_slice-2.new.self 128 c.if-n-lt56.end _ c.as_chunks.ensures.back e h
+          (c.copy_from_slice-2.ensures.after ∙ c.to_be_bytes.ensures));
+      len = e;
+    }

@@ -1,4 +1,4 @@
-use Prim.Native.Nat.{◌-◌, ◌<◌}
+use Prim.Native.Nat.{◌-◌}
 use mathlib.Core.Path.{◌≡◌}
 use Rattle.table.specs.Code.{lent}
 use Rattle.cutting.specs.Private.{own_in}
@@ -8,7 +8,4 @@ use Rattle.shorten.proofs.most_ids.Given as goal
 
 abbrev pub invariant-loop-k : goal.invariant-loop-k
 invariant-loop-k l =
-    (largest (fits_first l.writer l.size (own_in (lent l.times l.own) l.span)) (l.span.hi - l.span.lo - 1) ≡ largest (fits_first l.writer l.size (own_in (lent l.times l.own) l.span)) l.k) × (l.k < l.span.hi - l.span.lo)
-
-abbrev pub decreases-loop-k : goal.decreases-loop-k
-decreases-loop-k l = l.k
+    largest (fits_first l.writer l.size (own_in (lent l.times l.own) l.span)) (l.span.hi - l.span.lo - 1) ≡ largest (fits_first l.writer l.size (own_in (lent l.times l.own) l.span)) (l.k - 1)

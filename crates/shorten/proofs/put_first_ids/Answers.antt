@@ -9,5 +9,5 @@ returns c =
     let f = c.first_ids-range.ensures in
     let put = c.put.ensures in
     rw (← f.0)
-    (hands-put (writes a.pass) (record { range = c.first_ids-range.result; source = a.own.now }) a.writer (buffer_of a.pass a.out.now)
-    (buffer_of a.pass c.put.new.out) c.put.result (f.1, f.2) put.written_value put.next_value put.out_after)
+    (hands-put (writes a.pass) (record { range = c.first_ids-range.result; source = a.own.now }) a.writer.now c.put.new.self (buffer_of a.pass a.out.now)
+    (buffer_of a.pass c.put.new.out) c.put.result (f.1, f.2) put.verdict_value put.writer_after put.out_after)

@@ -1,6 +1,6 @@
-use Prim.Native.Nat.{◌+◌, ◌*◌, ◌-◌, ◌≤◌}
+use Prim.Native.Nat.{◌*◌, ◌-◌}
 use mathlib.Core.Path.{◌≡◌}
-use lib.ListN.{length, take}
+use lib.ListN.{take}
 use Rattle.label.specs.Label.{label_of}
 use Rattle.label.specs.Code.{label_in, whole_ids}
 use Rattle.table.specs.Code.{lent}
@@ -9,8 +9,7 @@ use Rattle.table.specs.Private.{later_fault}
 use Rattle.tablelabel.proofs.check_and_label.Given as goal
 
 abbrev pub invariant-loop-i : goal.invariant-loop-i
-invariant-loop-i l =
-    (l.i ≤ length l.times) × (not_rising (lent l.times l.ids) ≡ later_fault (lent l.times l.ids) l.i) × (label_in l.label ≡ label_of (whole_ids (take ((l.i + 1) * 32) l.ids)))
-
-abbrev pub decreases-loop-i : goal.decreases-loop-i
-decreases-loop-i l = length l.times - l.i
+invariant-loop-i l = record {
+  rises : not_rising (lent l.times l.ids) ≡ later_fault (lent l.times l.ids) (l.i - 1);
+  summed : label_in l.label ≡ label_of (whole_ids (take (l.i * 32) l.ids));
+}

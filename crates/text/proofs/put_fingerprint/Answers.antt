@@ -7,21 +7,21 @@ use Rattle.text.proofs.put_fingerprint.Goals as goal
 -- the fingerprint's bytes, or as many of them as there are
 pub put_hex-requires : goal.put_hex-requires
 put_hex-requires c =
-    let s : length c.part-f.result.now ≤ 16 = part_short 16 (drop c.args.at c.args.m.now) _ c.part-f.ensures in
-    (omega arith, omega (arith, length_part c.copy.new.out 12))
+    let s : length c.part.result.now ≤ 16 = part_short 16 (drop c.args.at c.args.m.now) _ c.part.ensures in
+    (omega arith, omega (arith, length_part c.copy-k.new.out c.copy-k.result))
 
 pub overflow_add-result : goal.overflow_add-result
 overflow_add-result c =
-    let s : length c.part-f.result.now ≤ 16 = part_short 16 (drop c.args.at c.args.m.now) _ c.part-f.ensures in
+    let s : length c.part.result.now ≤ 16 = part_short 16 (drop c.args.at c.args.m.now) _ c.part.ensures in
     omega arith
 
 pub returns : goal.returns
 unfolding payload_fields payload_field
 returns c =
     let a = c.args in
-    let f = c.part-f in
+    let f = c.part in
     let h = c.put_hex in
     let s : length f.result.now ≤ 16 = part_short 16 (drop a.at a.m.now) _ f.ensures in
     let field = hex f.result.now ++ (newline ∷ []) in
-    let z = word_put fingerprint_word field a.out.now c.copy.new.out h.new.out h.result (omega arith) c.copy.ensures.out_after h.ensures.value.0 h.ensures.out_after in
+    let z = word_put fingerprint_word field a.out.now c.copy-k.new.out h.new.out c.copy-k.result h.result c.copy-k.ensures.value (omega arith) c.copy-k.ensures.out_after h.ensures.value.0 h.ensures.out_after in
     rw (← f.ensures) record { value = (z.0, omega arith); out_after = z.1 }

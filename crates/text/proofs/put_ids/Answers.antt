@@ -11,5 +11,5 @@ returns c =
     let a = c.args in
     let d = c.put_decimal in
     let field = decimal a.count ++ (newline ∷ []) in
-    let z = word_put ids_word field a.out.now c.copy.new.out d.new.out d.result (omega arith) c.copy.ensures.out_after d.ensures.value.0 d.ensures.out_after in
+    let z = word_put ids_word field a.out.now c.copy-k.new.out d.new.out c.copy-k.result d.result c.copy-k.ensures.value (omega arith) c.copy-k.ensures.out_after d.ensures.value.0 d.ensures.out_after in
     rw ids-count record { value = (z.0, omega arith); out_after = z.1 }

@@ -9,5 +9,5 @@ returns c =
     let a = c.args in
     let d = c.put_decimal in
     let field = decimal a.n ++ (newline ∷ []) in
-    let z = word_put refused_word field a.out.now c.copy.new.out d.new.out d.result (omega arith) c.copy.ensures.out_after d.ensures.value.0 d.ensures.out_after in
+    let z = word_put refused_word field a.out.now c.copy-k.new.out d.new.out c.copy-k.result d.result c.copy-k.ensures.value (omega arith) c.copy-k.ensures.out_after d.ensures.value.0 d.ensures.out_after in
     record { value = (z.0, omega arith); out_after = z.1 }

@@ -2,8 +2,8 @@
 use mathlib.Core.Path.{refl}
 use Rattle.capi.proofs.folds.tell_commit.Goals as goal
 
-pub returns-in-Merged : goal.returns-in-Merged
-returns-in-Merged c = λ times ids list. rw c.in-Merged.is refl
+pub returns-in-Ok : goal.returns-in-Ok
+returns-in-Ok c = λ times ids list. rw c.in-Ok.is refl
 
-pub returns-in-Refused : goal.returns-in-Refused
-returns-in-Refused c = λ times ids list. rw (c.in-Refused.is, c.number.ensures) refl
+pub returns-in-Err : goal.returns-in-Err
+returns-in-Err c = λ times ids list. rw (c.in-Err.is, c.number.ensures) refl

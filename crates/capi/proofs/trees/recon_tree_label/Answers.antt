@@ -1,10 +1,15 @@
 -- `capi::trees::recon_tree_label` meets its contract.
-use Rattle.tree.specs.Tree.{label_of_run}
-use Rattle.capi.proofs.Verdicts.{number-told}
+use mathlib.Core.Path.{refl}
+use Rattle.label.specs.Code.{label_in}
 use Rattle.capi.proofs.trees.recon_tree_label.Goals as goal
 
-pub returns : goal.returns
-returns c =
-    let a = c.args in
-    let e = c.label_of_run-run.ensures in
-    record { refusal_value = number-told (label_of_run a.tree.now a.from a.to) _ _ c.number.ensures e.checked_value; result_value = e.found_value }
+pub returns-in-Ok : goal.returns-in-Ok
+returns-in-Ok c =
+    let e = c.in-Ok.ensures in
+    record { refusal_value = rw (← e) refl; result_value = rw (← e) refl }
+
+pub returns-in-Err : goal.returns-in-Err
+unfolding label_in
+returns-in-Err c =
+    let e = c.in-Err.ensures in
+    record { refusal_value = rw (← e) c.number.ensures; result_value = rw (← e) refl }

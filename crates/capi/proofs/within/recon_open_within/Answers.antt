@@ -1,8 +1,13 @@
 -- `capi::within::recon_open_within` meets its contract.
-use mathlib.Core.Path.{refl}
+use Rattle.capi.proofs.Openings.{opened_marks, opened_out}
 use Rattle.capi.proofs.within.recon_open_within.Goals as goal
 
 pub returns : goal.returns
 returns c =
     let e = c.open_session.ensures in
-    record { result_value = rw e c.tell_session.ensures; marks_after = rw e refl; out_after = rw e refl }
+    let o = c.open_session.new in
+    record {
+      result_value = rw e (c.tell_opened.ensures o.marks c.args.needed.now o.out);
+      marks_after = rw e (opened_marks _ _ _ _);
+      out_after = rw e (opened_out _ _ _ _);
+    }

@@ -1,6 +1,5 @@
 -- `cutting::ranges::put_fingerprint` meets its contract.
 use mathlib.Core.Path.{◌≡◌, refl, ◌∙◌}
-use Prim.Native.Nat.{◌*◌, ◌≤◌}
 use native.Mathlib.Omega.{arith}
 use lib.ListN.{length}
 use borrow.Author.Rules.{rules}
@@ -12,25 +11,19 @@ use Rattle.table.proofs.Items.{right_size}
 use Rattle.cutting.proofs.Parts.{run_of, run-print, print-length, hands-print}
 use Rattle.cutting.proofs.ranges.put_fingerprint.Goals as goal
 
-pub overflow_mul-first : goal.overflow_mul-first
-overflow_mul-first c =
-    let table : Table = lent c.args.times.now c.args.own.now in
-    let sized : (length c.args.own.now ≡ 32 * length c.args.times.now) × (length c.args.times.now ≤ 1048576) = right_size (table) c.requires.0.0 in
-    let r = sized in
+pub overflow_mul-at : goal.overflow_mul-at
+overflow_mul-at c =
+    let r = right_size (lent c.args.times.now c.args.own.now) c.requires.0.0 in
     omega arith
 
-pub overflow_mul-last : goal.overflow_mul-last
-overflow_mul-last c =
-    let table : Table = lent c.args.times.now c.args.own.now in
-    let sized : (length c.args.own.now ≡ 32 * length c.args.times.now) × (length c.args.times.now ≤ 1048576) = right_size (table) c.requires.0.0 in
-    let r = sized in
+pub overflow_mul-end : goal.overflow_mul-end
+overflow_mul-end c =
+    let r = right_size (lent c.args.times.now c.args.own.now) c.requires.0.0 in
     omega arith
 
 pub slice_bounds-fingerprint_bytes-end : goal.slice_bounds-fingerprint_bytes-end
 slice_bounds-fingerprint_bytes-end c =
-    let table : Table = lent c.args.times.now c.args.own.now in
-    let sized : (length c.args.own.now ≡ 32 * length c.args.times.now) × (length c.args.times.now ≤ 1048576) = right_size (table) c.requires.0.0 in
-    let r = sized in
+    let r = right_size (lent c.args.times.now c.args.own.now) c.requires.0.0 in
     search rules
 
 pub returns : goal.returns
@@ -43,4 +36,4 @@ returns c =
     let put = c.put in
     hands-print (writes a.pass) a.upper.bound a.upper.prefix made.result (fingerprint_of own) whole (print-length own)
     (λ e. made.ensures e ∙ run-print (table) c.requires.0 a.at a.end c.requires.1 c.requires.2 _ refl)
-    a.writer (buffer_of a.pass a.out.now) (buffer_of a.pass put.new.out) put.result c.requires.3 put.ensures.written_value put.ensures.next_value put.ensures.out_after
+    a.writer.now (buffer_of a.pass a.out.now) put.new.self (buffer_of a.pass put.new.out) put.result c.requires.3 put.ensures.verdict_value put.ensures.writer_after put.ensures.out_after

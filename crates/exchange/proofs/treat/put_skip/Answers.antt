@@ -9,4 +9,4 @@ returns c =
     let a = c.args in
     let put = c.put.ensures in
     hands-put (writes a.pass) (record { range = record { bound = a.span.bound; prefix = a.span.prefix; payload = Payload.Skip }; source = a.m.now })
-    a.writer (buffer_of a.pass a.out.now) (buffer_of a.pass c.put.new.out) c.put.result (c.requires, tt) put.written_value put.next_value put.out_after
+    a.writer.now c.put.new.self (buffer_of a.pass a.out.now) (buffer_of a.pass c.put.new.out) c.put.result (c.requires, tt) put.verdict_value put.writer_after put.out_after

@@ -1,12 +1,8 @@
-use Prim.Native.Nat.{ℕ, ◌-◌, ◌*◌, ◌≤◌, ◌<◌}
+use Prim.Native.Nat.{ℕ, ◌*◌, ◌≤◌, ◌<◌}
 use lib.ListN.{drop}
 use Rattle.message.specs.Bound.{big_endian}
 use Rattle.index.specs.Filter.{Outside}
 use Rattle.index.proofs.filter.next_inside.Given as goal
 
 abbrev pub invariant-loop-i : goal.invariant-loop-i
-invariant-loop-i l =
-    (l.j ≤ l.i) × (l.i ≤ l.count) × ((k : ℕ) → l.j ≤ k → k < l.i → Outside l.low l.high (big_endian 8 (drop (k * 32) l.list)))
-
-abbrev pub decreases-loop-i : goal.decreases-loop-i
-decreases-loop-i l = l.count - l.i
+invariant-loop-i l = (k : ℕ) → l.j ≤ k → k < l.i → Outside l.low l.high (big_endian 8 (drop (k * 32) l.list))

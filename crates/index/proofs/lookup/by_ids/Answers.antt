@@ -1,26 +1,22 @@
 -- `index::lookup::by_ids` meets its contract.
-use Prim.Native.Nat.{◌*◌}
-use mathlib.Core.Path.{◌∙◌}
+use Prim.Native.Nat.{◌<◌}
+use mathlib.Core.Path.{◌≡◌, ◌∙◌}
+use mathlib.Core.Bool.{cond}
 use native.Mathlib.Omega.{arith}
-use lib.ListN.{drop, length-drop}
-use Rattle.message.proofs.Order.{Small, small-drop}
-use Rattle.index.proofs.Finding.{id-sized, ids_whole}
+use lib.ListN.{length, get_or, get_or-append}
+use Rattle.message.proofs.Order.{Small}
+use Rattle.index.specs.Lookup.{listed}
+use Rattle.index.proofs.Finding.{ids_whole}
 use Rattle.index.proofs.Meeting.{met-ends}
 use Rattle.index.proofs.lookup.by_ids.Goals as goal
 
-pub meet-requires : goal.meet-requires
-meet-requires c =
-    let f = c.make_filter-filtered in
-    let e = f.auto.found in
-    let g = c.clear.auto.found in
-    (c.index.ensures, c.requires.0, omega (arith, c.requires.2), λ i h. f.ensures.1 i h ∙ c.clear.ensures i h, f.ensures.0)
-
 pub returns : goal.returns
-returns c =
-    let small-list : Small c.args.list.now = λ k. omega (arith, c.type_inv.list k) in
-    let small-ids : Small c.args.ids.now = λ k. omega (arith, c.type_inv.ids k) in
+returns c = λ i h.
     let a = c.args in
-    met-ends a.list.now a.count a.ids.now _ _ _ a.n c.index.ensures
-    (ids_whole a.count a.list.now (small-list) c.requires.0)
-    (λ i h. id-sized (drop (i * 32) a.ids.now) (small-drop (i * 32) a.ids.now (small-ids)) (rw (length-drop (i * 32) a.ids.now) (omega arith)))
-    (c.spread.ensures a.list.now a.count c.meet.ensures)
+    let index = c.new-index.result in
+    let found = c.spread.new.found in
+    let small : Small a.list.now = λ k. omega (arith, c.type_inv.list k) in
+    let long : i < length found = omega (arith, c.spread.auto.found, c.meet.auto.found, c.fill.ensures.len, c.split_at_mut-found.ensures.front_len) in
+    let inside : i < index.n = rw c.new-index.ensures.1 h in
+    let ends : get_or found i 0 ≡ cond (listed a.list.now a.count index.ids.now i) 1 0 = met-ends a.list.now a.count found index.sound (ids_whole a.count a.list.now small c.requires.0) (c.spread.ensures a.list.now a.count c.meet.ensures) i inside in
+    get_or-append found _ 0 i long ∙ (rw c.new-index.ensures.0 at ends)

@@ -1,13 +1,12 @@
 use Prim.Native.Nat.{ℕ, ◌-◌, ◌≤◌, ◌<◌}
 use mathlib.Core.Path.{◌≡◌}
 use mathlib.Core.Bool.{cond}
-use lib.ListN.{length, get_or}
+use lib.ListN.{get_or}
 use Rattle.index.specs.Lookup.{listed}
 use Rattle.index.proofs.lookup.by_index.Given as goal
 
 abbrev pub invariant-loop-done : goal.invariant-loop-done
-invariant-loop-done l =
-    (length l.words ≡ length l.initial.words) × (length l.pos ≡ length l.initial.pos) × (length l.found ≡ length l.initial.found) × (l.done ≤ l.count) × ((i : ℕ) → i < l.n → get_or l.found i 0 ≡ cond (listed l.list l.done l.ids i) 1 0)
+invariant-loop-done l = (l.done ≤ l.count) × ((i : ℕ) → i < l.n → get_or l.found i 0 ≡ cond (listed l.list l.done l.ids i) 1 0)
 
 abbrev pub decreases-loop-done : goal.decreases-loop-done
 decreases-loop-done l = l.count - l.done

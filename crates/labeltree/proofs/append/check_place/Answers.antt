@@ -1,27 +1,22 @@
 -- `labeltree::append::check_place` meets its contract.
 use native.Mathlib.Omega.{arith}
 use Rattle.tree.specs.Tree.{depth_of}
-use Rattle.tree.proofs.Levels.{power}
 use Rattle.tree.proofs.Calls.{place_wrong, place-full, place_free, size_wrong, size_right}
 use Rattle.labeltree.proofs.append.check_place.Goals as goal
+use Rattle.labeltree.proofs.append.check_place.Goals.{then-not-has_size-via-then-not-has_size, then-not-has_size-via-else-not-has_size+then-depth-n}
 
 pub returns-then-not-has_size : goal.returns-then-not-has_size
 returns-then-not-has_size c =
     let a = c.args in
     let d = c.depth_of-depth in
-    place_wrong a.n a.len (size_wrong (depth_of a.n) a.len d.result.places d.ensures.1 _ c.has_size.ensures c.if-not-has_size.true)
-
-pub returns-then-depth-n : goal.returns-then-depth-n
-returns-then-depth-n c =
-    let a = c.args in
-    let d = c.depth_of-depth in
-    place-full a.n a.len (size_right (depth_of a.n) a.len d.result.places d.ensures.1 _ c.has_size.ensures c.if-not-has_size.false) (omega (arith, d.ensures.1))
+    elim c.then-not-has_size.branch [
+      | then-not-has_size-via-then-not-has_size w ↦ place_wrong a.n a.len (size_wrong (depth_of a.n) a.len d.result.places d.ensures.1 _ c.has_size.ensures w.if-not-has_size.true)
+      | then-not-has_size-via-else-not-has_size+then-depth-n w ↦
+          place-full a.n a.len (size_right (depth_of a.n) a.len d.result.places d.ensures.1 _ c.has_size.ensures w.if-not-has_size.false) (omega (arith, d.ensures.1))
+    ]
 
 pub returns : goal.returns
 returns c =
     let a = c.args in
     let d = c.depth_of-depth in
     place_free a.n a.len (size_right (depth_of a.n) a.len d.result.places d.ensures.1 _ c.has_size.ensures c.if-not-has_size.false) (omega (arith, d.ensures.1))
-
-pub has_size-requires : goal.has_size-requires
-has_size-requires c = omega (arith, c.depth_of-depth.ensures.1, power (depth_of c.args.n))

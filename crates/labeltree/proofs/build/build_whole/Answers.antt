@@ -1,8 +1,6 @@
 -- `labeltree::build::build_whole` meets its contract.
 use native.Mathlib.Omega.{arith}
-use lib.ListN.{length}
 use Rattle.tree.specs.Tree.{depth_of}
-use Rattle.tree.proofs.Halves.{reach_whole}
 use Rattle.tree.proofs.Levels.{power, double}
 use Rattle.tree.proofs.Places.{whole_stored}
 use Rattle.labeltree.proofs.build.build_whole.Goals as goal
@@ -12,11 +10,6 @@ store_places-requires c =
     let k = depth_of c.args.n in
     let p = c.depth_of-depth.ensures.1 in
     (omega (arith, p, power k), omega (arith, p, c.requires.1, double k))
-
-pub sum_halves-requires : goal.sum_halves-requires
-sum_halves-requires c =
-    let w = c.store_places in
-    rw (c.depth_of-depth.ensures.0, w.auto.tree) (reach_whole (length c.args.tree.now) (depth_of c.args.n) c.requires.1).room
 
 pub returns : goal.returns
 returns c =

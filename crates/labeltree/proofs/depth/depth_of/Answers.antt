@@ -1,27 +1,14 @@
--- `labeltree::depth::depth_of` meets its contract. The invariant: `places` is 2 to the power `levels`, and no smaller power is enough.
-use mathlib.Core.Path.{refl, ap, ◌∙◌}
+-- `labeltree::depth::depth_of` meets its contract.
+use mathlib.Core.Path.{◌≡◌, ap, ◌∙◌}
 use Prim.Native.Nat.{ℕ, ◌^◌}
-use native.Mathlib.Omega.{arith}
-use Rattle.tree.proofs.Levels.{power, double}
-use Rattle.tree.proofs.Depth.{below_power, deeper, deep_enough}
+use Rattle.tree.specs.Tree.{depth_of}
+use Rattle.tree.proofs.Depth.{power_told, smallest_power}
 use Rattle.labeltree.proofs.depth.depth_of.Goals as goal
-
-pub loop-places-preserved : goal.loop-places-preserved
-loop-places-preserved c =
-    let l = c.loop-places.levels in
-    (omega (arith, double l), deeper c.args.n l (omega arith))
 
 pub returns : goal.returns
 returns c =
-    let l = c.loop-places.levels in
-    let e = deep_enough c.args.n l c.loop-places.invariant.1 (omega arith) in
-    (e, c.loop-places.invariant.0 ∙ ap (λ (x : ℕ). 2 ^ x) e)
-
-pub loop-places-init : goal.loop-places-init
-loop-places-init c = (refl, omega arith)
-
-pub overflow_add-levels : goal.overflow_add-levels
-overflow_add-levels c = omega (arith, below_power c.loop-places.levels)
-
-pub loop-places-smaller : goal.loop-places-smaller
-loop-places-smaller c = omega (arith, power c.loop-places.levels)
+    let p = c.next_power_of_two-places.ensures in
+    let l = c.ilog2.ensures in
+    let power : c.next_power_of_two-places.result ≡ 2 ^ c.ilog2.result = power_told p.power.0 _ _ p.power.1 l.power_le l.next_power_gt in
+    let levels : c.ilog2.result ≡ depth_of c.args.n = smallest_power c.args.n c.ilog2.result (rw (← power) p.lower_bound) (rw (← power) p.upper_bound) in
+    (levels, power ∙ ap (λ (x : ℕ). 2 ^ x) levels)

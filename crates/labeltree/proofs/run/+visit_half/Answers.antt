@@ -2,20 +2,26 @@
 use Rattle.std.proofs.Common.{◌+◌, ◌-◌, ◌*◌, ◌/◌, length, sym, ◌∙◌, arith}
 use Rattle.label.specs.Code.{label_in}
 use Rattle.tree.proofs.Places.{empty-label}
-use Rattle.tree.proofs.Halves.{reach_visits, reach_left, reach_right, found-outside, found_inside, found_halves, found-few}
+use Rattle.tree.proofs.Halves.{reach_visits, reach_left, reach_right, found-outside, found_inside, found-place, found_halves, found-few}
 use Rattle.labeltree.specs.Code.{found_in}
 use Rattle.labeltree.proofs.run.+visit_half.Goals as goal
+use Rattle.labeltree.proofs.run.+visit_half.Goals.{then-level-eq0-via-then-level-eq0, then-level-eq0-via-else-level-eq0+then-is_inside}
 
 pub returns-then-is_outside : goal.returns-then-is_outside
 returns-then-is_outside t c =
     let a = c.args in
     found-outside a.tree.now a.from a.to a.level a.size a.at a.first c.requires.sized _ empty-label (sym c.is_outside.ensures ∙ c.if-is_outside.true)
 
-pub returns-then-is_inside : goal.returns-then-is_inside
-returns-then-is_inside t c =
+pub returns-then-level-eq0 : goal.returns-then-level-eq0
+returns-then-level-eq0 t c =
     let a = c.args in
-    let r = c.read_label-then-is_inside in
-    found_inside a.tree.now a.from a.to a.level a.size a.at a.first c.requires.sized (label_in r.result) r.ensures (sym c.is_outside.ensures ∙ c.if-is_outside.false) (sym c.is_inside.ensures ∙ c.if-is_inside.true)
+    let r = c.read_label in
+    let some = sym c.is_outside.ensures ∙ c.if-is_outside.false in
+    elim c.then-level-eq0.branch [
+      | then-level-eq0-via-then-level-eq0 w ↦ found-place a.tree.now a.from a.to a.level a.size a.at a.first (label_in r.result) c.requires.sized w.if-level-eq0.true r.ensures some
+      | then-level-eq0-via-else-level-eq0+then-is_inside w ↦
+          found_inside a.tree.now a.from a.to a.level a.size a.at a.first c.requires.sized (label_in r.result) r.ensures some (sym w.is_inside.ensures ∙ w.if-is_inside.true)
+    ]
 
 -- the left half
 pub visit_half-left-requires : goal.visit_half-left-requires

@@ -1,4 +1,4 @@
-use Prim.Native.Nat.{◌+◌, ◌-◌, ◌≤◌}
+use Prim.Native.Nat.{◌+◌, ◌-◌}
 use mathlib.Core.Path.{◌≡◌}
 use lib.ListN.{length}
 use Rattle.table.specs.Table.{items}
@@ -8,8 +8,7 @@ use Rattle.merging.proofs.common.some_common.Given as goal
 
 abbrev pub invariant-loop-i : goal.invariant-loop-i
 invariant-loop-i l =
-    (l.i ≤ length l.times) × (l.j ≤ length l.fresh)
-    × (common (items (lent l.times l.ids)) (items (lent l.fresh l.freshids)) ≡ common_from (lent l.times l.ids) (lent l.fresh l.freshids) l.i l.j)
+    common (items (lent l.times l.ids)) (items (lent l.fresh l.freshids)) ≡ common_from (lent l.times l.ids) (lent l.fresh l.freshids) l.i l.j
 
 abbrev pub decreases-loop-i : goal.decreases-loop-i
 decreases-loop-i l = length l.times + length l.fresh - (l.i + l.j)

@@ -1,90 +1,71 @@
--- `needed::batch::add_new` meets its contract. The invariant: `Adding`, with the ids from the i-th on still to come.
-use Prim.Native.Nat.{ℕ, ◌+◌, ◌*◌, ◌<◌}
-use mathlib.Core.Path.{refl, ◌∙◌}
-use mathlib.Core.List.{List, ◌++◌, foldr}
+-- `needed::batch::add_new` meets its contract. The invariant: `Adding`, with the ids that are left still to come.
+use Prim.Native.Nat.{◌+◌, ◌-◌, ◌*◌, ◌<◌}
+use mathlib.Core.Path.{◌≡◌, refl}
+use mathlib.Core.Bool.{cond}
 use native.Mathlib.Omega.{arith}
 use lib.ListN.{take, drop, get_or, length-drop}
 use Rattle.message.proofs.Order.{Small, small-drop}
 use Rattle.message.specs.WellFormed.{All, Sized}
-use Rattle.ends.specs.Opener.{insert}
-use Rattle.needed.specs.Batches.{meant, unless, not_found}
+use Rattle.needed.specs.Batches.{unless}
 use Rattle.needed.proofs.Pointed.{id-sized}
-use Rattle.needed.proofs.Batching.{Adding, adding_starts, adding_on, adding_ends, adding_room_part, adding_part, not_found_from, not_found_all, not-found-none, not-found-next, unless-whole, rest-whole}
+use Rattle.needed.proofs.Batching.{adding_starts, adding_on, adding_ends, adding_room_end, adding_end, new_left, new-left-all, new-left-none, new-left-next, new-left-whole, unless-whole}
 use Rattle.needed.proofs.batch.add_new.Goals as goal
+use Rattle.needed.proofs.batch.add_new.Goals.{then-falls, else-falls}
 
-pub loop-i-init : goal.loop-i-init
-loop-i-init c =
-    let a = c.args in
-    (omega arith, refl, refl, refl, λ k. omega (arith, c.type_inv.needed k), adding_on a.m.now a.needed.now a.batch _ _ a.needed.now a.words.now a.pos.now a.batch _ (not_found_all a.found.now a.n a.m.now a.at) (adding_starts a.m.now a.needed.now a.words.now a.pos.now a.batch _ c.requires.0))
+pub loop-k-init : goal.loop-k-init
+loop-k-init c =
+    let a = c.args in record {
+      bytes = λ k. omega (arith, c.type_inv.needed k);
+      adding = adding_on a.m.now a.needed.now a.batch _ _ a.needed.now a.words.now a.pos.now a.batch _ (new-left-all a.found.now a.n a.m.now a.at a.falls) (adding_starts a.m.now a.needed.now a.words.now a.pos.now a.batch _ c.requires.0);
+    }
 
 pub add_unless-batch-requires : goal.add_unless-batch-requires
 add_unless-batch-requires c =
-    let small : Small c.args.m.now = λ k. omega (arith, c.type_inv.m k) in
-    let part_at : List (List ℕ) = let a = c.args in
-    unless (get_or a.found.now c.loop-i.i 0) (take 32 (drop (a.at + c.loop-i.i * 32) a.m.now)) in
-    let rest_at : List (List ℕ) = let a = c.args in
-    not_found_from a.found.now a.n a.m.now a.at (c.loop-i.i + 1) in
-    let whole_at : List (List ℕ) = let a = c.args in
-    foldr insert (meant a.m.now a.needed.now a.pos.now a.batch) (not_found a.found.now a.n (drop a.at a.m.now)) in
-    let next : c.loop-i.i < c.args.n → let a = c.args in let l = c.loop-i in Adding a.m.now a.needed.now a.batch (whole_at) (part_at ++ rest_at) l.needed l.words l.pos l.batch = λ h. let a = c.args in
-    let l = c.loop-i in
-    adding_on a.m.now a.needed.now a.batch _ _ l.needed l.words l.pos l.batch _ (not-found-next a.found.now a.n a.m.now a.at l.i h) l.invariant.5 in
-    let id-whole : c.loop-i.i < c.args.n → All (Sized 32) (part_at) = λ h. let a = c.args in
-    let p = a.at + c.loop-i.i * 32 in
-    unless-whole (get_or a.found.now c.loop-i.i 0) (take 32 (drop p a.m.now)) (id-sized (drop p a.m.now) (small-drop p a.m.now (small)) (omega (arith, length-drop p a.m.now))) in
     let a = c.args in
-    let l = c.loop-i in
-    let h : l.i < a.n = omega arith in
-    let n = l.invariant.1 in
-    let p = l.invariant.3 in
-    let room = c.requires.4 in (
-      l.invariant.5.batched,
+    let l = c.loop-k in
+    let i = c.if-falls.i in
+    let small : Small a.m.now = λ k. omega (arith, c.type_inv.m k) in
+    let is : i ≡ cond a.falls (a.n - 1 - l.k) l.k = elim c.if-falls.branch [
+      | then-falls w ↦ rw (w.if-falls.true, w.i-is) refl
+      | else-falls w ↦ rw (w.if-falls.false, w.i-is) refl
+    ] in
+    let within : i < a.n = elim c.if-falls.branch [ then-falls w ↦ omega arith | else-falls w ↦ omega arith ] in
+    let at = a.at + i * 32 in
+    let part = unless (get_or a.found.now i 0) (take 32 (drop at a.m.now)) in
+    let rest = new_left a.falls a.found.now a.n a.m.now a.at (l.k + 1) in
+    let part-whole : All (Sized 32) part = unless-whole (get_or a.found.now i 0) (take 32 (drop at a.m.now)) (id-sized (drop at a.m.now) (small-drop at a.m.now small) (omega (arith, length-drop at a.m.now))) in
+    let rest-whole : All (Sized 32) rest = new-left-whole a.found.now a.n a.m.now a.at a.falls (l.k + 1) small c.requires.2 (omega arith) in
+    let next = new-left-next a.found.now a.n a.m.now a.at a.falls l.k i (omega arith) is in (
+      l.invariant.adding.batched,
       omega arith,
       omega arith,
-      adding_room_part a.m.now a.needed.now a.batch (whole_at) (part_at) (rest_at) l.needed l.words l.pos l.batch (small) l.invariant.4 (id-whole h)
-          (rest-whole a.found.now a.n a.m.now a.at (l.i + 1) (small) c.requires.2 (omega arith)) (next h) (rw n room),
+      adding_room_end a.m.now a.needed.now a.batch _ _ part rest l.needed l.words l.pos l.batch small l.invariant.bytes part-whole rest-whole next l.invariant.adding (rw (c.loop-k.auto.needed) c.requires.4),
     )
 
-pub loop-i-preserved : goal.loop-i-preserved
-loop-i-preserved c =
-    let small : Small c.args.m.now = λ k. omega (arith, c.type_inv.m k) in
-    let part_at : List (List ℕ) = let a = c.args in
-    unless (get_or a.found.now c.loop-i.i 0) (take 32 (drop (a.at + c.loop-i.i * 32) a.m.now)) in
-    let rest_at : List (List ℕ) = let a = c.args in
-    not_found_from a.found.now a.n a.m.now a.at (c.loop-i.i + 1) in
-    let whole_at : List (List ℕ) = let a = c.args in
-    foldr insert (meant a.m.now a.needed.now a.pos.now a.batch) (not_found a.found.now a.n (drop a.at a.m.now)) in
-    let next : c.loop-i.i < c.args.n → let a = c.args in let l = c.loop-i in Adding a.m.now a.needed.now a.batch (whole_at) (part_at ++ rest_at) l.needed l.words l.pos l.batch = λ h. let a = c.args in
-    let l = c.loop-i in
-    adding_on a.m.now a.needed.now a.batch _ _ l.needed l.words l.pos l.batch _ (not-found-next a.found.now a.n a.m.now a.at l.i h) l.invariant.5 in
-    let id-whole : c.loop-i.i < c.args.n → All (Sized 32) (part_at) = λ h. let a = c.args in
-    let p = a.at + c.loop-i.i * 32 in
-    unless-whole (get_or a.found.now c.loop-i.i 0) (take 32 (drop p a.m.now)) (id-sized (drop p a.m.now) (small-drop p a.m.now (small)) (omega (arith, length-drop p a.m.now))) in
+pub loop-k-preserved : goal.loop-k-preserved
+loop-k-preserved c =
     let a = c.args in
-    let l = c.loop-i in
-    let t = c.add_unless-batch in
-    let h : l.i < a.n = c.loop-i-test.true in (
-      omega arith,
-      t.auto.needed ∙ l.invariant.1,
-      t.auto.words ∙ l.invariant.2,
-      t.auto.pos ∙ l.invariant.3,
-      λ k. omega (arith, c.type_inv.needed k),
-      adding_part a.m.now a.needed.now a.batch (whole_at) (part_at) (rest_at) l.needed l.words l.pos l.batch (small) l.invariant.4 (id-whole h)
-          (rest-whole a.found.now a.n a.m.now a.at (l.i + 1) (small) c.requires.2 (omega arith)) (next h)
-          t.new.needed t.new.words t.new.pos t.result t.ensures,
-    )
+    let l = c.loop-k in
+    let i = c.if-falls.i in
+    let small : Small a.m.now = λ k. omega (arith, c.type_inv.m k) in
+    let is : i ≡ cond a.falls (a.n - 1 - l.k) l.k = elim c.if-falls.branch [
+      | then-falls w ↦ rw (w.if-falls.true, w.i-is) refl
+      | else-falls w ↦ rw (w.if-falls.false, w.i-is) refl
+    ] in
+    let within : i < a.n = elim c.if-falls.branch [ then-falls w ↦ omega arith | else-falls w ↦ omega arith ] in
+    let at = a.at + i * 32 in
+    let part = unless (get_or a.found.now i 0) (take 32 (drop at a.m.now)) in
+    let rest = new_left a.falls a.found.now a.n a.m.now a.at (l.k + 1) in
+    let part-whole : All (Sized 32) part = unless-whole (get_or a.found.now i 0) (take 32 (drop at a.m.now)) (id-sized (drop at a.m.now) (small-drop at a.m.now small) (omega (arith, length-drop at a.m.now))) in
+    let rest-whole : All (Sized 32) rest = new-left-whole a.found.now a.n a.m.now a.at a.falls (l.k + 1) small c.requires.2 (omega arith) in
+    let next = new-left-next a.found.now a.n a.m.now a.at a.falls l.k i (omega arith) is in
+    let t = c.add_unless-batch in record {
+      bytes = λ k. omega (arith, c.type_inv.needed k);
+      adding = adding_end a.m.now a.needed.now a.batch _ _ part rest l.needed l.words l.pos l.batch small l.invariant.bytes part-whole rest-whole next l.invariant.adding t.new.needed t.new.words t.new.pos t.result t.ensures;
+    }
 
 pub returns : goal.returns
 returns c =
     let a = c.args in
-    let l = c.loop-i in
-    adding_ends a.m.now a.needed.now a.batch _ _ l.needed l.words l.pos l.batch (not-found-none a.found.now a.n a.m.now a.at l.i (omega arith)) l.invariant.5
-
-pub shape_of-needed : goal.shape_of-needed
-shape_of-needed c = c.loop-i.invariant.1
-
-pub shape_of-words : goal.shape_of-words
-shape_of-words c = c.loop-i.invariant.2
-
-pub shape_of-pos : goal.shape_of-pos
-shape_of-pos c = c.loop-i.invariant.3
+    let l = c.loop-k in
+    adding_ends a.m.now a.needed.now a.batch _ _ l.needed l.words l.pos l.batch (new-left-none a.found.now a.n a.m.now a.at a.falls l.k (omega arith)) l.invariant.adding

@@ -1,17 +1,13 @@
-use Prim.Native.Nat.{◌-◌, ◌≤◌}
-use mathlib.Core.Path.{◌≡◌}
 use mathlib.Core.List.{foldr}
-use lib.ListN.{length, drop}
+use lib.ListN.{drop}
 use Rattle.message.proofs.Order.{Small}
 use Rattle.ends.specs.Opener.{insert}
 use Rattle.needed.specs.Batches.{meant, not_found}
-use Rattle.needed.proofs.Batching.{Adding, not_found_from}
+use Rattle.needed.proofs.Batching.{Adding, new_left}
 use Rattle.needed.proofs.batch.add_new.Given as goal
 
-abbrev pub invariant-loop-i : goal.invariant-loop-i
-invariant-loop-i l =
-    (l.i ≤ l.n) × (length l.needed ≡ length l.initial.needed) × (length l.words ≡ length l.initial.words) × (length l.pos ≡ length l.initial.pos) × Small l.needed
-    × Adding l.m l.initial.needed l.initial.batch (foldr insert (meant l.m l.initial.needed l.initial.pos l.initial.batch) (not_found l.found l.n (drop l.at l.m))) (not_found_from l.found l.n l.m l.at l.i) l.needed l.words l.pos l.batch
-
-abbrev pub decreases-loop-i : goal.decreases-loop-i
-decreases-loop-i l = l.n - l.i
+abbrev pub invariant-loop-k : goal.invariant-loop-k
+invariant-loop-k l = record {
+  bytes : Small l.needed;
+  adding : Adding l.m l.initial.needed l.initial.batch (foldr insert (meant l.m l.initial.needed l.initial.pos l.initial.batch) (not_found l.found l.n (drop l.at l.m))) (new_left l.falls l.found l.n l.m l.at l.k) l.needed l.words l.pos l.batch;
+}

@@ -1,5 +1,4 @@
 use Prim.Native.Nat.{◌-◌}
-use mathlib.Core.Path.{◌≡◌}
 use mathlib.Core.List.{foldr}
 use lib.ListN.{length}
 use Rattle.message.specs.Code.{ids_in}
@@ -12,10 +11,11 @@ use Rattle.needed.proofs.Batching.{Adding}
 use Rattle.needed.proofs.join.join_with.Given as goal
 
 abbrev pub invariant-loop-walk : goal.invariant-loop-walk
-invariant-loop-walk l =
-    Walking (lent l.times l.own) l.m l.walk × (length l.needed ≡ length l.initial.needed) × (length l.words ≡ length l.initial.words) × (length l.pos ≡ length l.initial.pos) × (length l.keys ≡ length l.initial.keys) × (length l.places ≡ length l.initial.places)
-    × (length l.found ≡ length l.initial.found) × Small l.needed
-    × Adding l.m l.initial.needed l.initial.batch (foldr insert (ids_in l.size l.initial.needed) (added_from (lent l.times l.own) l.m starts)) (added_from (lent l.times l.own) l.m l.walk) l.needed l.words l.pos l.batch
+invariant-loop-walk l = record {
+  walking : Walking (lent l.times l.own) l.m l.walk;
+  bytes : Small l.needed;
+  adding : Adding l.m l.initial.needed l.initial.batch (foldr insert (ids_in l.size l.initial.needed) (added_from (lent l.times l.own) l.m starts)) (added_from (lent l.times l.own) l.m l.walk) l.needed l.words l.pos l.batch;
+}
 
 abbrev pub decreases-loop-walk : goal.decreases-loop-walk
 decreases-loop-walk l = length l.m - l.walk.cursor.at

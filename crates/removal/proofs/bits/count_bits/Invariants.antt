@@ -1,17 +1,10 @@
-use Prim.Native.Nat.{ℕ, ◌+◌, ◌-◌, ◌≤◌}
+use Prim.Native.Nat.{◌≤◌}
 use mathlib.Core.Path.{◌≡◌}
-use mathlib.Core.List.{List}
-use lib.ListN.{take, drop}
-use Rattle.ends.specs.Opener.{ones}
+use lib.Dec.{eqb}
+use lib.ListN.{take}
+use Rattle.std.specs.List.{count_by}
 use Rattle.removal.specs.Removing.{bits_in}
 use Rattle.removal.proofs.bits.count_bits.Given as goal
 
-abbrev pub counted : ℕ → List ℕ → List ℕ
-counted count marks = take count (bits_in marks)
-
 abbrev pub invariant-loop-k : goal.invariant-loop-k
-invariant-loop-k l =
-    (l.k ≤ l.count) × (l.sum ≤ l.k) × (ones (counted l.count l.marks) ≡ l.sum + ones (drop l.k (counted l.count l.marks)))
-
-abbrev pub decreases-loop-k : goal.decreases-loop-k
-decreases-loop-k l = l.count - l.k
+invariant-loop-k l = (l.sum ≤ l.k) × (l.sum ≡ count_by (λ x. eqb x 1) (take l.k (bits_in l.marks)))

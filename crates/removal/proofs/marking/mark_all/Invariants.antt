@@ -1,13 +1,11 @@
 use Prim.Native.Nat.{◌-◌}
-use mathlib.Core.Path.{◌≡◌}
-use lib.ListN.{length}
 use Rattle.message.specs.Code.{ids_in}
 use Rattle.removal.proofs.Blocks.{Marking}
 use Rattle.removal.proofs.marking.mark_all.Given as goal
 
 abbrev pub invariant-loop-lo : goal.invariant-loop-lo
 invariant-loop-lo l =
-    (length l.ends ≡ length l.initial.ends) × (length l.marks ≡ length l.initial.marks) × Marking (ids_in l.m l.ids) l.list l.count l.marks l.found l.lo
+    Marking (ids_in l.m l.ids) l.list l.count l.marks l.found l.lo
 
 abbrev pub decreases-loop-lo : goal.decreases-loop-lo
 decreases-loop-lo l = l.count - l.lo

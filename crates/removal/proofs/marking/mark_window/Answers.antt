@@ -11,14 +11,7 @@ use Rattle.removal.proofs.marking.mark_window.Goals as goal
 pub mark_inside-requires : goal.mark_inside-requires
 mark_inside-requires c =
     let a = c.args in
-    let k = c.clear in (
-      c.requires.0,
-      c.requires.1,
-      c.requires.2,
-      omega (arith, c.requires.3, k.auto.marks),
-      c.requires.4,
-      c.word-low.ensures,
-      c.word-high.ensures,
-      c.shift_for-shift.ensures,
-      cleared a.list.now a.count (length a.marks.now * 8) c.requires.3 (bits_in k.new.marks) (ap bits_in k.ensures ∙ bits_in_zeros (length a.marks.now)),
-    )
+    let n = length a.marks.now in
+    let h = c.new-hints.ensures in
+    let zeros = cleared a.list.now a.count (n * 8) c.requires.3 (bits_in c.fill.new.self) (ap bits_in (c.fill.ensures.after (λ y e. e)) ∙ bits_in_zeros n) in
+    rw (h.0, h.1) (c.requires.2, omega arith, zeros)

@@ -1,7 +1,7 @@
 -- `sending::put::write` meets its contract.
+use Rattle.writer.specs.Writing.{started}
 use Rattle.sending.proofs.put.write.Goals as goal
 
 pub returns : goal.returns
-returns c =
-    let b = c.begin-begun.ensures in
-    rw (b.next_value, b.out_after) at c.put_message.ensures
+unfolding started
+returns c = (c.put_message.new.writer, rw c.begin.ensures.out_after at c.put_message.ensures)

@@ -21,16 +21,16 @@ returns-then-hi-lo c =
     let hi = c.first_at_or_above-hi in
     c.fingerprint.ensures ∙ ap fingerprint empty_is ∙ range-empty (table) c.requires _ _ lo.result hi.result lo.ensures.0 hi.ensures.0 c.if-hi-lo.true
 
-pub overflow_mul-first : goal.overflow_mul-first
-overflow_mul-first c =
+pub overflow_mul-lo : goal.overflow_mul-lo
+overflow_mul-lo c =
     let table : Table = lent c.args.times.now c.args.ids.now in
     let sized : (length c.args.ids.now ≡ 32 * length c.args.times.now) × (length c.args.times.now ≤ 1048576) = right_size (table) c.requires.0 in
     let r = sized in
     let l = c.first_at_or_above-lo.ensures.1 in
     omega arith
 
-pub overflow_mul-end : goal.overflow_mul-end
-overflow_mul-end c =
+pub overflow_mul-hi : goal.overflow_mul-hi
+overflow_mul-hi c =
     let table : Table = lent c.args.times.now c.args.ids.now in
     let sized : (length c.args.ids.now ≡ 32 * length c.args.times.now) × (length c.args.times.now ≤ 1048576) = right_size (table) c.requires.0 in
     let r = sized in

@@ -1,29 +1,37 @@
 -- `sha256::compression::schedule` meets its contract. The invariant: the first t words are the schedule's. Assumes nothing.
-use Rattle.std.proofs.Common.{◌≡◌, ℕ, ◌-◌, take, drop, sym, ap, ◌∙◌, arith, length-set, take_all, rules}
+use Rattle.std.proofs.Common.{◌≡◌, refl, sym, ◌∙◌, arith, length-set, take_all}
 use Rattle.sha256.specs.Fips180.{words, extend, schedule}
-use Rattle.sha256.proofs.Rounds.{next_more}
+use Rattle.sha256.proofs.Rounds.{word_more, next_more}
 use Rattle.sha256.proofs.compression.schedule.Goals as goal
 
 pub loop-t-init : goal.loop-t-init
-unfolding extend
-loop-t-init c = (omega arith, omega arith, search rules, c.block_words-w.ensures)
+unfolding words
+loop-t-init c = (refl, refl)
 
 pub loop-t-preserved : goal.loop-t-preserved
 loop-t-preserved c =
-    let turn = c.loop-t in
-    let start = c.args in (
-      omega arith,
-      omega arith,
-      simp length-set turn.invariant.2,
-      next_more turn.w (words 16 (take 64 (drop start.at start.m.now))) turn.t c.next_word.result turn.invariant.0 (omega arith) turn.invariant.3
-          c.next_word.ensures,
+    let turn = c.loop-t in (
+      simp length-set turn.invariant.0,
+      rw (c.from_be_bytes.ensures, c.as_chunks.ensures.front) (word_more turn.w c.args.block.now turn.t _ (omega arith) (omega arith) turn.invariant.1),
+    )
+
+pub loop-t-2-init : goal.loop-t-2-init
+unfolding extend
+loop-t-2-init c =
+    let e : c.loop-t.t ≡ 16 = omega arith in
+    (c.loop-t.invariant.0, rw e at c.loop-t.invariant.1)
+
+pub loop-t-2-preserved : goal.loop-t-2-preserved
+loop-t-2-preserved c =
+    let turn = c.loop-t-2 in (
+      simp length-set turn.invariant.0,
+      next_more turn.w (words 16 c.args.block.now) turn.t _ (omega arith) (omega arith) turn.invariant.1
+          (rw (c.small_sigma1.ensures, c.small_sigma0.ensures)),
     )
 
 pub returns : goal.returns
 unfolding schedule
 returns c =
-    let start = c.args in
-    let turn = c.loop-t in
+    let turn = c.loop-t-2 in
     let e : turn.t ≡ 64 = omega arith in
-    sym (take_all 64 turn.w (omega arith)) ∙ ap (λ (n : ℕ). take n turn.w) (sym e) ∙ turn.invariant.3
-    ∙ ap (λ (n : ℕ). extend (n - 16) (words 16 (take 64 (drop start.at start.m.now)))) e
+    sym (take_all 64 turn.w (omega arith)) ∙ rw e at turn.invariant.1

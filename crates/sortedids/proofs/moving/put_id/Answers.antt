@@ -1,28 +1,14 @@
--- `sortedids::moving::put_id` meets its contract. The invariant: i bytes are written.
-use Prim.Native.Nat.{suc, ◌+◌, ◌-◌}
-use mathlib.Core.Path.{◌≡◌, refl, ap, ◌∙◌}
-use mathlib.Core.List.{append_assoc}
+-- `sortedids::moving::put_id` meets its contract.
+use Prim.Native.Nat.{◌+◌, ◌-◌, ◌≤◌}
+use mathlib.Core.Path.{◌≡◌, ◌∙◌, sym}
 use native.Mathlib.Omega.{arith}
-use lib.ListN.{take, drop, length-set}
-use lib.Seq.{paste, paste-zero, paste-suc}
+use lib.ListN.{length, drop, length-drop}
+use lib.Seq.{length-take-le}
 use Rattle.sortedids.proofs.moving.put_id.Goals as goal
 
-pub loop-i-init : goal.loop-i-init
-loop-i-init c = (omega arith, refl, paste-zero c.args.list.now c.args.at c.args.id.now)
-
-pub loop-i-preserved : goal.loop-i-preserved
-loop-i-preserved c =
-    let l = c.loop-i in
-    let next : l.i + 1 ≡ suc l.i = omega arith in
-    let one = paste-suc c.args.list.now c.args.at c.args.id.now l.i 0 (omega arith) (omega arith) in
-    (omega arith, simp length-set l.invariant.1, rw (l.invariant.2, next) one)
-
-pub shape_of-list : goal.shape_of-list
-shape_of-list c = c.loop-i.invariant.1
-
-pub returns : goal.returns
-returns c =
-    let l = c.loop-i in
+pub copy_from_slice-requires : goal.copy_from_slice-requires
+copy_from_slice-requires c =
     let a = c.args in
-    let all : l.i ≡ 32 = omega arith in
-    l.invariant.2 ∙ ap (paste a.list.now a.at a.id.now) all ∙ append_assoc (take a.at a.list.now) (take 32 a.id.now) (drop (a.at + 32) a.list.now)
+    let e : a.at + 32 - a.at ≡ 32 = omega arith in
+    let h : 32 ≤ length (drop a.at a.list.now) = rw (length-drop a.at a.list.now) (omega arith) in
+    rw e (length-take-le 32 (drop a.at a.list.now) h ∙ sym (length-take-le 32 a.id.now c.requires.1))

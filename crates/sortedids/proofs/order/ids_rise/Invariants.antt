@@ -1,4 +1,4 @@
-use Prim.Native.Nat.{◌-◌, ◌≤◌}
+use Prim.Native.Nat.{◌-◌}
 use mathlib.Core.Path.{◌≡◌}
 use mathlib.Core.List.{map}
 use Rattle.message.specs.Bound.{big_endian}
@@ -8,8 +8,4 @@ use Rattle.sortedids.proofs.Rising.{rise_from}
 use Rattle.sortedids.proofs.order.ids_rise.Given as goal
 
 abbrev pub invariant-loop-i : goal.invariant-loop-i
-invariant-loop-i l =
-    (1 ≤ l.i) × (rising (map (big_endian 32) (ids_in l.count l.list)) ≡ rise_from l.list l.count (l.i - 1))
-
-abbrev pub decreases-loop-i : goal.decreases-loop-i
-decreases-loop-i l = l.count - l.i
+invariant-loop-i l = rising (map (big_endian 32) (ids_in l.count l.list)) ≡ rise_from l.list l.count (l.i - 1)

@@ -15,9 +15,9 @@ returns-then-times-gt1048576 c =
     let table : Table = lent c.args.times.now c.args.ids.now in
     size-refused table (answer tt)
     (elim c.then-times-gt1048576.branch [
-       then-times-gt1048576-via-then-times-gt1048576 w ↦ too_many table (omega arith)
-       | then-times-gt1048576-via-else-times-gt1048576+then-ids-times w ↦ other-size table w.if-ids-times.true
-     ])
+      | then-times-gt1048576-via-then-times-gt1048576 w ↦ too_many table (omega arith)
+      | then-times-gt1048576-via-else-times-gt1048576+then-ids-times w ↦ other-size table w.if-ids-times.true
+    ])
 
 pub returns-then-eq : goal.returns-then-eq
 returns-then-eq c =

@@ -18,33 +18,22 @@ use Rattle.table.proofs.search.first_at_or_above.Goals as goal
 pub loop-lo-init : goal.loop-lo-init
 loop-lo-init c =
     let table : Table = lent c.args.times.now c.args.ids.now in
-    (omega arith, place-ends _ (table), omega arith)
+    (omega arith, place-ends _ table, omega arith)
 
-pub overflow_mul-p : goal.overflow_mul-p
-overflow_mul-p c =
+pub overflow_mul-mid : goal.overflow_mul-mid
+overflow_mul-mid c =
     let table : Table = lent c.args.times.now c.args.ids.now in
-    omega (arith, (right_size (table) c.requires.0).1)
-
-pub offset_bounds-times-mid : goal.offset_bounds-times-mid
-offset_bounds-times-mid c =
-    let table : Table = lent c.args.times.now c.args.ids.now in
-    omega (arith, (right_size (table) c.requires.0).1)
+    omega (arith, (right_size table c.requires.0).1)
 
 pub slice_bounds-below-count : goal.slice_bounds-below-count
 slice_bounds-below-count c =
     let table : Table = lent c.args.times.now c.args.ids.now in
-    omega (arith, (right_size (table) c.requires.0).0)
+    omega (arith, (right_size table c.requires.0).0)
 
 pub slice_bounds-below-start : goal.slice_bounds-below-start
 slice_bounds-below-start c =
     let table : Table = lent c.args.times.now c.args.ids.now in
-    let r = right_size (table) c.requires.0 in
-    search rules
-
-pub slice_bounds-below-end : goal.slice_bounds-below-end
-slice_bounds-below-end c =
-    let table : Table = lent c.args.times.now c.args.ids.now in
-    let r = right_size (table) c.requires.0 in
+    let r = right_size table c.requires.0 in
     search rules
 
 pub loop-lo-preserved-then-below : goal.loop-lo-preserved-then-below
@@ -52,8 +41,8 @@ loop-lo-preserved-then-below c =
     let table : Table = lent c.args.times.now c.args.ids.now in
     let middle : ℕ = c.loop-lo.lo + (c.loop-lo.hi - c.loop-lo.lo) / 2 in
     let asked : Bound = finite c.time-time.result c.prefix-prefix.result.now in
-    let compared : c.below.result ≡ ltb (key_of (item_at (table) (middle))) (key (asked)) = rw (← item-key (table) (middle)) c.below.ensures in
-    let w = above-item (table) c.requires (asked) (middle) (omega arith) (ltb-true _ _ (rw (← compared) c.if-below.true)) in
+    let compared : c.below.result ≡ ltb (key_of (item_at table middle)) (key asked) = rw (← item-key table middle) c.below.ensures in
+    let w = above-item table c.requires asked middle (omega arith) (ltb-true _ _ (rw (← compared) c.if-below.true)) in
     (omega arith, c.loop-lo.invariant.1, c.loop-lo.invariant.2)
 
 pub loop-lo-preserved : goal.loop-lo-preserved
@@ -61,14 +50,14 @@ loop-lo-preserved c =
     let table : Table = lent c.args.times.now c.args.ids.now in
     let middle : ℕ = c.loop-lo.lo + (c.loop-lo.hi - c.loop-lo.lo) / 2 in
     let asked : Bound = finite c.time-time.result c.prefix-prefix.result.now in
-    let compared : c.below.result ≡ ltb (key_of (item_at (table) (middle))) (key (asked)) = rw (← item-key (table) (middle)) c.below.ensures in
-    (c.loop-lo.invariant.0, not-above-item (table) c.requires (asked) (middle) (omega arith) (ltb-false _ _ (rw (← compared) c.if-below.false)), omega arith)
+    let compared : c.below.result ≡ ltb (key_of (item_at table middle)) (key asked) = rw (← item-key table middle) c.below.ensures in
+    (c.loop-lo.invariant.0, not-above-item table c.requires asked middle (omega arith) (ltb-false _ _ (rw (← compared) c.if-below.false)), omega arith)
 
 pub returns : goal.returns
 returns c =
     let table : Table = lent c.args.times.now c.args.ids.now in
     let asked : Bound = finite c.time-time.result c.prefix-prefix.result.now in
     let a = c.args in
-    let at : c.loop-lo.lo ≡ place_of (asked) (items (table)) = omega arith in
+    let at : c.loop-lo.lo ≡ place_of asked (items table) = omega arith in
     let same = key_is a.bound a.beside.now _ _ c.time-time.ensures c.prefix-prefix.ensures in
-    (at ∙ place_same (asked) _ (items (table)) same, omega arith)
+    (at ∙ place_same asked _ (items table) same, omega arith)

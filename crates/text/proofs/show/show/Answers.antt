@@ -16,22 +16,22 @@ returns-then-out-lt-ROOM c =
 
 pub put_ranges-requires : goal.put_ranges-requires
 put_ranges-requires c =
-    (omega arith, c.if-out-lt-ROOM.false, message-read c.args.m.now _ c.in-Ranges.ensures)
+    (omega arith, c.if-out-lt-ROOM.false, message-read c.args.m.now _ c.in-Ok.ensures)
 
-pub returns-in-Refused : goal.returns-in-Refused
-returns-in-Refused c =
+pub returns-in-Err : goal.returns-in-Err
+returns-in-Err c =
     let out = c.args.out.now in
     let m = c.args.m.now in
     let p = c.put_refusal in
     let text =
     not-long out m c.if-out-lt-ROOM.false (omega arith)
-    ∙ printed-refused (read_message m) (number_of c.in-Refused.refusal) c.in-Refused.ensures
+    ∙ printed-refused (read_message m) (number_of c.in-Err.refusal) c.in-Err.ensures
     ∙ ap refusal_line (sym c.number.ensures) in
     let z = shows_all out m p.new.out _ p.result (bytes_of m c.type_inv.m) text p.ensures.value.0 p.ensures.out_after in
     record { value = z.0; out_after = z.1.0; prefix_len = z.1.1 }
 
-pub returns-in-Ranges : goal.returns-in-Ranges
-returns-in-Ranges c =
+pub returns-in-Ok : goal.returns-in-Ok
+returns-in-Ok c =
     let out = c.args.out.now in
     let m = c.args.m.now in
     let p = c.put_ranges in

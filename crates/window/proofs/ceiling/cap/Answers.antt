@@ -2,7 +2,7 @@
 use native.Mathlib.Omega.{arith}
 use lib.ListN.{get_or}
 use Rattle.idlist.specs.Positions.{key_at}
-use Rattle.window.proofs.Selecting.{not_capped, capped_at}
+use Rattle.window.proofs.Selecting.{capped_at}
 use Rattle.window.proofs.ceiling.cap.Goals as goal
 
 -- the largest of the smallest ids is the ceiling
@@ -10,11 +10,4 @@ pub returns : goal.returns
 unfolding key_at
 returns c =
     let t = c.smallest_listed-n in
-    let full = c.if-n-lt11008.false in
-    capped_at c.args.m.now c.args.interval c.requires.2 (get_or t.new.pos 0 0) (t.ensures.0.points 0 (omega arith)) (t.ensures.1 0 (omega arith))
-
-pub returns-then-interval : goal.returns-then-interval
-returns-then-interval c = not_capped c.args.m.now c.args.interval c.requires.2 c.requires.3
-
-pub returns-then-n-lt11008 : goal.returns-then-n-lt11008
-returns-then-n-lt11008 c = not_capped c.args.m.now c.args.interval c.requires.2 c.requires.3
+    capped_at c.args.m.now c.args.interval c.requires.2 c.requires.3 (get_or t.new.pos 0 0) (t.ensures.0.points 0 (omega arith)) (t.ensures.1 0 (omega arith))

@@ -1,7 +1,6 @@
 use Prim.Native.Nat.{ℕ, ◌-◌, ◌*◌, ◌≤◌}
-use mathlib.Core.Path.{◌≡◌}
 use mathlib.Core.List.{List, ◌++◌}
-use lib.ListN.{length, drop}
+use lib.ListN.{drop}
 use Rattle.message.specs.Code.{ids_in}
 use Rattle.cutting.specs.declared.Span.{Span}
 use Rattle.walk.specs.Adding.{others}
@@ -14,18 +13,12 @@ abbrev pub owns : List ℕ → Span → List (List ℕ)
 owns own span = ids_in (span.hi - span.lo) (drop (span.lo * 32) own)
 
 abbrev pub invariant-loop-i : goal.invariant-loop-i
-invariant-loop-i l =
-    (l.i ≤ l.count)
-    × (length l.words ≡ length l.initial.words)
-    × (length l.pos ≡ length l.initial.pos)
-    × (length l.keys ≡ length l.initial.keys)
-    × (length l.places ≡ length l.initial.places)
-    × (length l.found ≡ length l.initial.found)
-    × (length l.ids ≡ length l.initial.ids)
-    × (length l.picks ≡ length l.initial.picks)
-    × Placed l.m l.words l.pos l.n
-    × ((all later : List (List ℕ)) → Gathering l.m all (others l.own l.span (ids_in l.count (drop l.at l.m)) ++ later) (limits l.interval l.m) l.initial.pos l.n-2
-    → Gathering l.m all (others_from (owns l.own l.span) l.m l.at l.count l.i ++ later) (limits l.interval l.m) l.pos l.n)
+invariant-loop-i l = record {
+  few : l.i ≤ l.count;
+  placed : Placed l.m l.words l.pos l.n;
+  offered : (all later : List (List ℕ)) → Gathering l.m all (others l.own l.span (ids_in l.count (drop l.at l.m)) ++ later) (limits l.interval l.m) l.initial.pos l.initial.n
+      → Gathering l.m all (others_from (owns l.own l.span) l.m l.at l.count l.i ++ later) (limits l.interval l.m) l.pos l.n;
+}
 
 abbrev pub decreases-loop-i : goal.decreases-loop-i
 decreases-loop-i l = l.count - l.i

@@ -1,10 +1,10 @@
 -- `window::select::offer` meets its contract.
 use Prim.Native.Nat.{◌+◌, ◌<◌}
-use mathlib.Core.Path.{◌≡◌, ◌∙◌}
+use mathlib.Core.Path.{◌≡◌}
 use native.Mathlib.Omega.{arith}
 use lib.ListN.{length-set}
 use Rattle.index.proofs.Heaps.{rearranged_none}
-use Rattle.window.proofs.Selecting.{first-points, first-worded, first_heap, first_offered, last-points, last-worded, last_offered}
+use Rattle.window.proofs.Selecting.{first-points, first-worded, first_heap, first_offered, last-worded, last_offered}
 use Rattle.window.proofs.select.offer.Goals as goal
 
 pub sift-requires : goal.sift-requires
@@ -25,12 +25,6 @@ sift-requires c =
       first-worded a.m.now a.words.now a.pos.now a.n a.p w.result p.1 p.2 p.3 p.0 w.ensures e,
     )
 
-pub shape_of-words-then-n-ge11008 : goal.shape_of-words-then-n-ge11008
-shape_of-words-then-n-ge11008 c = c.sift.auto.words ∙ simp length-set
-
-pub shape_of-pos-then-n-ge11008 : goal.shape_of-pos-then-n-ge11008
-shape_of-pos-then-n-ge11008 c = c.sift.auto.pos ∙ simp length-set
-
 pub returns-then-n-ge11008 : goal.returns-then-n-ge11008
 returns-then-n-ge11008 c =
     let full : c.args.n ≡ 11008 = let h = c.requires.3.few in
@@ -41,26 +35,6 @@ returns-then-n-ge11008 c =
     let w = c.word-v in
     let r = c.sift in
     first_offered a.m.now a.words.now a.pos.now a.n a.p w.result p.1 p.2 p.3 p.0 w.ensures (full) r.new.words r.new.pos r.ensures.0 r.ensures.2 r.ensures.1
-
-pub build-requires : goal.build-requires
-build-requires c =
-    let a = c.args in
-    let p = c.requires in
-    let w = c.word-v in
-    let e : a.n + 1 ≡ 11008 = c.if-more-eq11008.true in
-    let h : a.n < 11008 = c.if-n-ge11008.false in (
-      simp length-set (omega arith),
-      omega arith,
-      rw e at (last-points a.m.now a.words.now a.pos.now a.n a.p w.result p.1 p.2 p.3 p.0 w.ensures h),
-      simp length-set (omega arith),
-      rw e at (last-worded a.m.now a.words.now a.pos.now a.n a.p w.result p.1 p.2 p.3 p.0 w.ensures h),
-    )
-
-pub shape_of-words-then-more-eq11008 : goal.shape_of-words-then-more-eq11008
-shape_of-words-then-more-eq11008 c = c.build.auto.words ∙ simp length-set
-
-pub shape_of-pos-then-more-eq11008 : goal.shape_of-pos-then-more-eq11008
-shape_of-pos-then-more-eq11008 c = c.build.auto.pos ∙ simp length-set
 
 pub returns-then-more-eq11008 : goal.returns-then-more-eq11008
 returns-then-more-eq11008 c =

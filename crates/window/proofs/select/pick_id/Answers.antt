@@ -1,10 +1,12 @@
 -- `window::select::pick_id` meets its contract.
-use Prim.Native.Nat.{◌-◌, ◌≤◌}
+use Prim.Native.Nat.{◌+◌, ◌-◌, ◌*◌, ◌≤◌}
 use native.Mathlib.Omega.{arith}
-use lib.ListN.{length, take, drop, length-drop}
-use Rattle.reader.proofs.Listing.{part-from}
+use lib.ListN.{length, drop, length-drop}
+use lib.Seq.{drop-drop}
+use borrow.Rule.Slice.PartMut.{put_mid}
+use mathlib.Core.Path.{◌≡◌, refl}
 use Rattle.window.specs.Windows.{limits, picked_at}
-use Rattle.window.proofs.Selecting.{pick_none, picked_more, one_picked}
+use Rattle.window.proofs.Selecting.{pick_none, picked_more, copied_to, one_picked}
 use Rattle.window.proofs.select.pick_id.Goals as goal
 
 pub returns-then-not-wanted : goal.returns-then-not-wanted
@@ -21,9 +23,13 @@ returns c =
     let a = c.args in
     let room = c.requires.5 in
     let wide = c.requires.6 in
-    let id = take (length a.m.now - a.p) (drop a.p a.m.now) in
-    let whole : 32 ≤ length id = rw (part-from a.m.now a.p) (omega (arith, length-drop a.p a.m.now, c.requires.0)) in (
+    let inside = c.requires.0 in
+    let whole : 32 ≤ length (drop a.p a.m.now) = omega (arith, length-drop a.p a.m.now) in
+    let size : a.k * 32 + 32 - a.k * 32 ≡ 32 = omega arith in
+    let read : a.p + 32 - a.p ≡ 32 = omega arith in
+    let written : put_mid (a.k * 32) (a.k * 32 + 32 - a.k * 32) a.ids.now c.copy_from_slice.new.self ≡ copied_to a.ids.now (drop a.p a.m.now) a.k (omega arith) whole =
+    rw (c.copy_from_slice.ensures.after, read, size, drop-drop 32 (a.k * 32) a.ids.now) refl in (
       omega arith,
-      rw c.copy_id.ensures (one_picked a.ids.now id a.k (omega arith) whole a.m.now a.picks.now a.p c.requires.7 room c.requires.0 (part-from a.m.now a.p)),
+      rw written (one_picked a.ids.now (drop a.p a.m.now) a.k (omega arith) whole a.m.now a.picks.now a.p c.requires.7 room inside refl),
       λ o all rest g. rw (picked_more a.m.now a.picks.now a.p a.k room) g,
     )

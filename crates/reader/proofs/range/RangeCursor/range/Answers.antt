@@ -1,52 +1,30 @@
--- `reader::range::RangeCursor::range` meets its contract.
-use mathlib.Core.Path.{refl}
-use native.Mathlib.Omega.{arith}
+use Rattle.std.proofs.Common.{refl, ap, ◌∙◌}
+use Rattle.std.proofs.lemmas.Result.{err_from_is_err_and}
 use Rattle.message.specs.Message.{read_range}
 use Rattle.reader.specs.Answers.{padded}
 use Rattle.reader.proofs.Steps.{onward}
-use Rattle.reader.proofs.ReadingRanges.{part_length, part-kept, part-padded, refused_is}
+use Rattle.reader.proofs.ReadingBounds.{whole_prefix}
+use Rattle.reader.proofs.ReadingRanges.{kept}
 use Rattle.reader.proofs.range.RangeCursor.range.Goals as goal
 
-pub with_payload-requires : goal.with_payload-requires
-unfolding padded
-with_payload-requires c = (omega arith, refl)
-
-pub overflow_add-end : goal.overflow_add-end
-overflow_add-end c =
-    let x = rw c.in-At.is at c.bound.ensures.1 in
-    omega arith
-
-pub slice_bounds-pad-end : goal.slice_bounds-pad-end
-slice_bounds-pad-end c =
-    let x = rw c.in-At.is at c.bound.ensures.1 in
-    omega arith
-
-pub pad-prefix-requires : goal.pad-prefix-requires
-pad-prefix-requires c =
-    let x = rw c.in-At.is at c.bound.ensures.1 in
-    omega (arith, part_length c.args.m.now c.in-At.at c.in-At.len (omega arith))
-
-pub with_payload-requires-in-At : goal.with_payload-requires-in-At
-with_payload-requires-in-At c =
-    let x = rw c.in-At.is at c.bound.ensures.1 in
-    (x.2, part-padded c.args.m.now c.in-At.at c.in-At.len (omega arith) _ c.pad-prefix.ensures)
-
-pub returns-in-Refused : goal.returns-in-Refused
+pub returns-in_err-upper : goal.returns-in_err-upper
 unfolding read_range
-returns-in-Refused c =
-    let a = c.args in
-    let x = rw c.in-Refused.is at c.bound.ensures in
-    refused_is a.m.now a.self _ c.refuse.ensures (onward _ x.0 refl)
+returns-in_err-upper c =
+    let p = err_from_is_err_and c.from_residual.result c.from_residual.ensures.1 in
+    rw (p.1, p.2) (onward _ c.in_err-upper.ensures.0 refl, tt)
 
-pub returns-in-Infinity : goal.returns-in-Infinity
+pub returns-in_err-payload : goal.returns-in_err-payload
 unfolding read_range
-returns-in-Infinity c =
-    let x = rw c.in-Infinity.is at c.bound.ensures.0 in
-    (onward _ x c.with_payload.ensures.0, c.with_payload.ensures.1)
+returns-in_err-payload c =
+    let p = err_from_is_err_and c.from_residual-in_err-payload.result c.from_residual-in_err-payload.ensures.1 in
+    rw (p.1, p.2) (onward _ c.in_ok-upper.ensures.0 (onward _ c.in_err-payload.ensures.0 refl), tt)
 
-pub returns-in-At : goal.returns-in-At
+pub returns : goal.returns
 unfolding read_range
-returns-in-At c =
-    let x = rw c.in-At.is at c.bound.ensures in
-    let e = part-kept c.args.m.now c.in-At.at c.in-At.len (omega arith) _ c.pad-prefix.ensures in
-    (onward _ x.0 (rw e at c.with_payload-in-At.ensures.0), c.with_payload-in-At.ensures.1)
+returns c =
+    let u = c.in_ok-upper.field-0.value in
+    let x = c.in_ok-upper.ensures in
+    let w = c.in_ok-payload.ensures in
+    let r = c.pad-prefix in
+    rw (kept u.bound u.prefix.now r.result x.1.0 r.ensures)
+    (onward _ x.0 (onward _ w.0 refl), ((x.1.2, r.ensures ∙ ap padded (whole_prefix u.bound u.prefix.now x.1.0)), w.1.0, w.1.1, refl, refl))

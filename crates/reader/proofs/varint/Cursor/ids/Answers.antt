@@ -1,31 +1,24 @@
--- `reader::varint::Cursor::ids` meets its contract.
-use mathlib.Core.Path.{refl}
-use native.Mathlib.Omega.{arith}
+use Rattle.std.proofs.Common.{refl, arith}
+use Rattle.std.proofs.lemmas.Result.{err_from_is_err_and}
 use Rattle.message.specs.Message.{read_of_mode}
 use Rattle.reader.proofs.Steps.{onward}
 use Rattle.reader.proofs.ReadingPayloads.{ids-end, ids-read}
 use Rattle.reader.proofs.varint.Cursor.ids.Goals as goal
 
--- the varint ends inside the message
-pub overflow_sub-room : goal.overflow_sub-room
-overflow_sub-room c = rw c.in-Value.is at c.varint.ensures.1
-
-pub returns-then-room-count : goal.returns-then-room-count
+pub returns-in_err-value : goal.returns-in_err-value
 unfolding read_of_mode
-returns-then-room-count c =
-    let v = rw c.in-Value.is at c.varint.ensures in
-    let i = ids-end c.in-Value.value c.in-Value.next.at c.args.m.now (omega arith) in
-    (onward _ v.0 (onward _ i refl), tt)
+returns-in_err-value c =
+    let p = err_from_is_err_and c.from_residual.result c.from_residual.ensures.1 in
+    rw (p.1, p.2) (onward _ c.in_err-value.ensures.0 refl, tt)
 
-pub returns-in-Refused : goal.returns-in-Refused
+pub returns-then-m-at : goal.returns-then-m-at
 unfolding read_of_mode
-returns-in-Refused c =
-    let v = rw c.in-Refused.is at c.varint.ensures in
-    (onward _ v.0 refl, tt)
+returns-then-m-at c =
+    let v = c.in_ok-value.field-0 in
+    (onward _ c.in_ok-value.ensures.0 (onward _ (ids-end v.value v.next.at c.args.m.now (omega arith)) refl), tt)
 
-pub returns-else-room-count : goal.returns-else-room-count
+pub returns : goal.returns
 unfolding read_of_mode
-returns-else-room-count c =
-    let v = rw c.in-Value.is at c.varint.ensures in
-    let i = ids-read c.in-Value.value c.in-Value.next.at c.args.m.now (omega arith) in
-    (onward _ v.0 (onward _ i refl), (refl, omega arith))
+returns c =
+    let v = c.in_ok-value.field-0 in
+    (onward _ c.in_ok-value.ensures.0 (onward _ (ids-read v.value v.next.at c.args.m.now (omega arith)) refl), (refl, omega (arith, c.in_ok-value.ensures.1)))

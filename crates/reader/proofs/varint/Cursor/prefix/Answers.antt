@@ -1,37 +1,30 @@
--- `reader::varint::Cursor::prefix` meets its contract.
-use mathlib.Core.Path.{refl}
-use native.Mathlib.Omega.{arith}
+use Rattle.std.proofs.Common.{◌≡◌, ◌+◌, ◌-◌, ℕ, refl, arith, length-take}
+use Rattle.std.proofs.lemmas.Result.{err_from_is_err_and}
 use Rattle.message.specs.Bound.{read_prefix}
 use Rattle.reader.proofs.Steps.{onward, bytes-end, bytes_read}
 use Rattle.reader.proofs.ReadingBounds.{prefix-long, prefix-fits}
 use Rattle.reader.proofs.varint.Cursor.prefix.Goals as goal
 
+pub returns-in_err-value : goal.returns-in_err-value
+unfolding read_prefix
+returns-in_err-value c =
+    let p = err_from_is_err_and c.from_residual.result c.from_residual.ensures.1 in
+    rw (p.1, p.2) (onward _ c.in_err-value.ensures.0 refl, tt)
+
 pub returns-then-most-value : goal.returns-then-most-value
 unfolding read_prefix
-returns-then-most-value c =
-    let v = rw c.in-Value.is at c.varint.ensures in
-    (onward _ v.0 (prefix-long _ _ _ c.if-most-value.true), tt)
+returns-then-most-value c = (onward _ c.in_ok-value.ensures.0 (prefix-long _ _ _ c.if-most-value.true), tt)
 
--- the varint ends inside the message
-pub overflow_sub-m : goal.overflow_sub-m
-overflow_sub-m c = rw c.in-Value.is at c.varint.ensures.1
-
-pub returns-then-m-at : goal.returns-then-m-at
+pub returns-then-m-next : goal.returns-then-m-next
 unfolding read_prefix
-returns-then-m-at c =
-    let v = rw c.in-Value.is at c.varint.ensures in
-    let b = bytes-end c.in-Value.value c.in-Value.next.at c.args.m.now c.if-m-at.true in
-    (onward _ v.0 (prefix-fits _ _ _ c.if-most-value.false b), tt)
+returns-then-m-next c =
+    let v = c.in_ok-value.field-0 in
+    (onward _ c.in_ok-value.ensures.0 (prefix-fits _ _ _ c.if-most-value.false (bytes-end v.value v.next.at c.args.m.now c.if-m-next.true)), tt)
 
-pub returns-in-Refused : goal.returns-in-Refused
+pub returns : goal.returns
 unfolding read_prefix
-returns-in-Refused c =
-    let v = rw c.in-Refused.is at c.varint.ensures in
-    (onward _ v.0 refl, tt)
-
-pub returns-else-m-at : goal.returns-else-m-at
-unfolding read_prefix
-returns-else-m-at c =
-    let v = rw c.in-Value.is at c.varint.ensures in
-    let b = bytes_read c.in-Value.value c.in-Value.next.at c.args.m.now c.if-m-at.false in
-    (onward _ v.0 (prefix-fits _ _ _ c.if-most-value.false b), (refl, omega arith, c.if-most-value.false))
+returns c =
+    let v = c.in_ok-value.field-0 in
+    let e : v.next.at + v.value - v.next.at ≡ v.value = omega arith in
+    let b = bytes_read v.value v.next.at c.args.m.now c.if-m-next.false in
+    rw e (onward _ c.in_ok-value.ensures.0 (prefix-fits _ _ _ c.if-most-value.false b), (omega (arith, c.in_ok-value.ensures.1), omega (arith, length-take {A = ℕ})))

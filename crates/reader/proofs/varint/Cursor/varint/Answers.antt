@@ -1,32 +1,31 @@
--- `reader::varint::Cursor::varint` meets its contract. The invariant: the digits from place i on, v being read so far, come to what the whole varint comes to.
-use mathlib.Core.Path.{sym, ◌∙◌}
-use native.Mathlib.Omega.{arith}
-use Rattle.reader.proofs.ReadingVarints.{digits_end, digits_past, digits_last, digits_more, varint_end, varint_padded, varint_digits}
+use Rattle.std.proofs.lemmas.Grind.{common_steps}
+use Rattle.std.proofs.Common.{◌≡◌, ◌<◌, length, get_or, sym, ◌∙◌, arith}
+use Rattle.reader.proofs.ReadingVarints.{digits_end, digits_past, digits_last, digits_more, varint_padded, varint_begins}
 use Rattle.reader.proofs.varint.Cursor.varint.Goals as goal
 
-pub returns-then-m-at : goal.returns-then-m-at
-returns-then-m-at c = (sym (varint_end _ _ c.if-m-at.true), tt)
-
-pub returns-then-m-at-2 : goal.returns-then-m-at-2
-returns-then-m-at-2 c = (sym (varint_padded c.args.m.now c.args.self.at (omega arith) c.if-m-at-2.true), tt)
+pub returns-then-eq : goal.returns-then-eq
+returns-then-eq c =
+    let a = c.args in
+    let inside : a.self.at < length a.m.now = grind (arith, common_steps) in
+    let first : get_or a.m.now a.self.at 0 ≡ 128 = grind (arith, common_steps) in
+    (sym (varint_padded a.m.now a.self.at inside first), tt)
 
 pub loop-i-init : goal.loop-i-init
-loop-i-init c = (omega arith, varint_digits c.args.m.now c.args.self.at (omega arith) c.if-m-at-2.false)
+loop-i-init c =
+    let a = c.args in
+    let first : a.self.at < length a.m.now → get_or a.m.now a.self.at 0 ≡ 128 → ⊥ = grind (arith, common_steps) in
+    varint_begins a.m.now a.self.at first
 
-pub overflow_cast-b : goal.overflow_cast-b
-overflow_cast-b c = omega (arith, c.type_inv.m c.loop-i.i)
+pub returns-then-value : goal.returns-then-value
+returns-then-value c = (sym (c.loop-i.invariant ∙ digits_past c.args.m.now c.loop-i.i c.loop-i.value (omega arith) (omega arith)), tt)
 
-pub returns-then-v-gt144115188075855871 : goal.returns-then-v-gt144115188075855871
-returns-then-v-gt144115188075855871 c =
-    (sym (c.loop-i.invariant.1 ∙ digits_past c.args.m.now c.loop-i.i c.loop-i.v (omega arith) (omega arith)), tt)
-
-pub returns-then-b-lt128 : goal.returns-then-b-lt128
-returns-then-b-lt128 c =
-    (sym (c.loop-i.invariant.1 ∙ digits_last c.args.m.now c.loop-i.i c.loop-i.v (omega arith) (omega arith) c.if-b-lt128.true), omega arith)
+pub returns-then-m-i-lt128 : goal.returns-then-m-i-lt128
+returns-then-m-i-lt128 c =
+    (sym (c.loop-i.invariant ∙ digits_last c.args.m.now c.loop-i.i c.loop-i.value (omega arith) (omega arith) (omega arith)), omega arith)
 
 pub loop-i-preserved : goal.loop-i-preserved
 loop-i-preserved c =
-    (omega arith, c.loop-i.invariant.1 ∙ digits_more c.args.m.now c.loop-i.i c.loop-i.v (omega arith) (omega arith) c.if-b-lt128.false)
+    c.loop-i.invariant ∙ digits_more c.args.m.now c.loop-i.i c.loop-i.value (omega arith) (omega arith) (omega arith)
 
 pub returns : goal.returns
-returns c = (sym (c.loop-i.invariant.1 ∙ digits_end _ _ _ c.loop-i-test.false), tt)
+returns c = (sym (c.loop-i.invariant ∙ digits_end _ _ _ c.loop-i-test.false), tt)

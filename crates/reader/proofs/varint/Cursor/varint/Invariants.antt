@@ -1,11 +1,7 @@
-use Prim.Native.Nat.{◌≤◌, ◌-◌}
-use mathlib.Core.Path.{◌≡◌}
-use lib.ListN.{length, drop}
+-- The digits from place i on, `value` being read so far, come to what the whole varint comes to.
+use Rattle.std.proofs.Common.{◌≡◌, drop}
 use Rattle.message.specs.Varint.{read_varint, read_digits}
 use Rattle.reader.proofs.varint.Cursor.varint.Given as goal
 
 abbrev pub invariant-loop-i : goal.invariant-loop-i
-invariant-loop-i l = (l.i ≤ length l.m) × (read_varint (drop l.at l.m) ≡ read_digits l.v (drop l.i l.m))
-
-abbrev pub decreases-loop-i : goal.decreases-loop-i
-decreases-loop-i l = length l.m - l.i
+invariant-loop-i l = read_varint (drop l.fn.self.at l.m) ≡ read_digits l.value (drop l.i l.m)

@@ -71,7 +71,7 @@ impl Label {
         self == other
     }
 
-    // The fingerprint: what is hashed are the sum, least significant byte first, and the count as a varint.
+    // The fingerprint: what is hashed are the sum, least significant byte first, and the count as a varint. Both fit the array.
     pub fn fingerprint(self) -> [u8; 16]
         ensures { result ≡ spec.fingerprint (label_in self) }
     {

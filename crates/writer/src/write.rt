@@ -41,10 +41,11 @@ impl Writer {
         time: 0,
         pending: false,
         bound: Bound::At { time: 0, len: 0 },
-        prefix: [0u8; 32],
+        prefix: [0; 32],
     };
 
     // The writer behind the byte 61, measured only: a message of at most `size` bytes is begun.
+    #[tactic(auto, unfolding(crate::specs::Writing::started))]
     pub fn start(size: usize) -> Result<Writer, Refusal>
         ensures verdict_value { verdict_of result ≡ judge 12 (leb 1 size) taken }
         ensures writer_value { IfOk result (λ w. w ≡ started) }
@@ -68,6 +69,7 @@ impl Writer {
     }
 
     // How many bytes the pending skip takes.
+    #[tactic(auto, using(crate::proofs::Steps::pending_none, crate::proofs::Steps::pending_length), unfolding(crate::specs::Private::payload_size))]
     fn pending_size(self) -> usize
         requires { Lawful self.bound }
         ensures { (result ≡ length (pending_bytes self)) × (result ≤ 65) }

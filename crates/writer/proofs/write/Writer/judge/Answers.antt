@@ -1,8 +1,7 @@
 -- `writer::write::Writer::judge` meets its contract.
 use mathlib.Core.Path.{refl, sym}
 use native.Mathlib.Omega.{arith}
-use Rattle.writer.proofs.Sizes.{judged-payload}
-use Rattle.writer.proofs.Steps.{fit-lawful, bad_bound, truncated, no_room, fits}
+use Rattle.writer.proofs.Steps.{bad_bound, truncated, no_room, fits}
 use Rattle.writer.proofs.write.Writer.judge.Goals as goal
 use Rattle.writer.proofs.write.Writer.judge.Goals.{then-size-self-via-then-size-self, then-size-self-via-else-size-self+then-size-self-2}
 
@@ -11,12 +10,6 @@ returns-then-not-bounds_fit c = bad_bound _ _ _ _ (sym c.if-not-bounds_fit.ensur
 
 pub returns-then-not-is_inside : goal.returns-then-not-is_inside
 returns-then-not-is_inside c = truncated _ _ _ _ (sym c.if-not-bounds_fit.ensures) (sym c.if-not-is_inside.ensures)
-
-pub more_size-requires : goal.more_size-requires
-more_size-requires c =
-    let a = c.args in
-    let each = fit-lawful a.self a.range (sym c.if-not-bounds_fit.ensures) in
-    (each.0, each.1, judged-payload a.range.payload _ (sym c.if-not-is_inside.ensures))
 
 pub returns-then-size-self : goal.returns-then-size-self
 returns-then-size-self c =

@@ -1,5 +1,5 @@
 // The checks of a batch, in their order.
-ghost use Rattle.std.specs.Prelude.{ℕ, ◌*◌, ◌/◌, ◌%◌, ◌≡◌, false, not, ◌||◌, List, map, eqb, ltb, length};
+ghost use Rattle.std.specs.Prelude.{ℕ, ◌*◌, ◌/◌, ◌%◌, ◌≡◌, not, ◌||◌, List, map, eqb, ltb, length};
 ghost use Rattle.message.specs.Bound.{big_endian};
 ghost use Rattle.message.specs.Code.{ids_in};
 ghost use Rattle.table.specs.Answer.{answer, refuse_if};
@@ -21,14 +21,6 @@ pub(crate) fn holds(times: usize, bytes: usize, n: usize) -> bool
     n <= times && n <= 1048576 && n * 32 <= bytes
 }
 
-// Whether a table of the right size passes check 2.
-fn rises(times: &[u64], ids: &[u8]) -> bool
-    requires { wrong_size (lent times.now ids.now) ≡ false }
-    ensures { result ≡ not (not_rising (lent times.now ids.now)) }
-{
-    check_table(times, ids).is_ok()
-}
-
 // Checks 1 and 2, each of the table of `count` items and of the batch.
 pub(crate) fn check_tables(
     times: &[u64],
@@ -45,10 +37,9 @@ pub(crate) fn check_tables(
     if 1048576 < fresh.len() || freshids.len() != fresh.len() * 32 {
         return Err(Refusal::TableSize);
     }
-    if !rises(&times[..count], &ids[..count * 32]) || !rises(fresh, freshids) {
-        return Err(Refusal::TableOrder);
-    }
-    Ok(())
+    // The sizes are right: what is refused now is the order.
+    check_table(&times[..count], &ids[..count * 32])?;
+    check_table(fresh, freshids)
 }
 
 // Whether the needed buffer has whole ids, at least `size`, and the first `size` of them rise.
@@ -59,6 +50,7 @@ fn needed_fits(needed: &[u8], size: usize) -> bool
 }
 
 // Checks 4 and 15: the needed list of `size` ids, and whether the session is done.
+#[tactic(auto, unfolding(fold::specs::Fold::wrong_needed))]
 pub(crate) fn check_list(needed: &[u8], size: usize, done: bool) -> Result<(), Refusal>
     ensures { (times ids : List ℕ) (marked : ℕ) (label : Label) → answer_of result ≡ refuse_if 4 (wrong_needed (lent_to times ids needed.now marked label size done)) (refuse_if 15 (not done) (answer tt)) }
 {

@@ -57,10 +57,9 @@ fn inquire_checked(
 {
     let entering = fresh.len();
     let tally = survey(needed, size, freshids, entering, ends, marks);
-    if tally.found != entering {
-        return Err(Refusal::NotDue);
-    }
-    if some_common(&times[..count], &ids[..count * 32], fresh, freshids) {
+    if tally.found != entering
+        || some_common(&times[..count], &ids[..count * 32], fresh, freshids)
+    {
         return Err(Refusal::NotDue);
     }
     if !holds(times.len(), ids.len(), count + entering) {

@@ -95,7 +95,8 @@ fn inquire_with(
     )
 }
 
-// As `inquire`, with room for E hints and for the marks of 8 M needed ids at a time.
+// As `inquire`, with room for E hints and for the marks of 8 M needed ids at a time. Not inlined: a short list is not to pay for a stack that has room for the large arrays.
+#[inline(never)]
 fn inquire_sized<const E: usize, const M: usize>(
     times: &[u64],
     ids: &[u8],
@@ -164,7 +165,8 @@ fn commit_with(
     })
 }
 
-// As `commit`, with room for E hints and for the marks of 8 M needed ids at a time.
+// As `commit`, with room for E hints and for the marks of 8 M needed ids at a time. Not inlined, as `inquire_sized`.
+#[inline(never)]
 fn commit_sized<const E: usize, const M: usize>(
     times: &mut [u64],
     ids: &mut [u8],

@@ -57,6 +57,7 @@ fn survey_blocks(
     let mut found = 0;
     let mut left = 0;
     let mut lo = 0;
+    // No `for`: `fitting` says how long each step is.
     while lo < size {
         let count = fitting(size - lo, marks.len());
         let block = survey_block(&list[lo * 32..], count, ids, m, ends, marks);
@@ -137,6 +138,7 @@ fn take_out_blocks(
 {
     let mut kept = 0;
     let mut lo = 0;
+    // No `for`, as in `survey_blocks`.
     while lo < size {
         let count = fitting(size - lo, marks.len());
         kept = keep_in_block(list, kept, lo, count, ids, m, ends, marks);

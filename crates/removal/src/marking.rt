@@ -36,6 +36,7 @@ fn mark_inside(hints: &Hints, ids: &[u8], m: usize, marks: &mut [u8]) -> usize
 {
     let mut found = 0;
     let mut j = next_inside(ids, 0, m, hints.low, hints.high);
+    // No `for`: `next_inside` steps over ids.
     while j < m {
         if mark_one(hints, &ids[j * 32..], marks) {
             found += 1;
@@ -79,6 +80,7 @@ pub(crate) fn mark_all(
 {
     let mut found = 0;
     let mut lo = 0;
+    // No `for`: `fitting` says how long each step is.
     while lo < count {
         let n = fitting(count - lo, ends.len());
         found += mark_window(&list[lo * 32..], n, ids, m, ends, &mut marks[lo / 8..]);

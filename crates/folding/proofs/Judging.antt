@@ -1,18 +1,15 @@
 -- What each answer of the code says of a check, and the checks in their order.
-use Prim.Native.Nat.{ℕ, ◌+◌, ◌*◌, ◌/◌, ◌%◌, ◌≤◌, ◌<◌}
+use Prim.Native.Nat.{ℕ, ◌+◌, ◌*◌}
 use mathlib.Core.Path.{◌≡◌, refl, sym, ◌∙◌}
 use mathlib.Core.Bool.{Bool, true, false, not, ◌||◌}
-use mathlib.Core.List.{List, map}
+use mathlib.Core.List.{List}
 use native.Mathlib.Omega.{arith}
-use lib.Dec.{eqb, ltb}
+use lib.Dec.{ltb}
 use lib.ListN.{length, take}
 use lib.Seq.{length-take-le}
 use borrow.Author.Tests.{not-true, not-false}
-use Rattle.message.specs.Bound.{big_endian}
-use Rattle.message.specs.Code.{ids_in}
 use Rattle.message.proofs.Exact.{by_test, differ}
 use Rattle.table.specs.Answer.{Answer, answer, refused, refuse_if}
-use Rattle.table.specs.Lists.{rising}
 use Rattle.table.specs.Table.{Table, items, wrong_size, not_rising, judge_table}
 use Rattle.table.specs.Code.{lent}
 use Rattle.table.specs.Private.{Passed}

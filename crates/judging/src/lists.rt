@@ -56,7 +56,11 @@ fn reply_with(
 {
     let mut walk = Walk::start();
     while walk.cursor.at < reply.len() {
-        let Step { span, payload, next } = walk.step(reply, times, own);
+        let Step {
+            span,
+            payload,
+            next,
+        } = walk.step(reply, times, own);
         if !of_table(reply, times, own, span, payload, words, pos, found) {
             return false;
         }

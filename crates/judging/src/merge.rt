@@ -168,7 +168,11 @@ fn range_answered(
         listed: true,
     };
     while walk.cursor.at < reply.len() {
-        let Step { span, payload, next } = walk.step(reply, times, own);
+        let Step {
+            span,
+            payload,
+            next,
+        } = walk.step(reply, times, own);
         let end = upper_of(span);
         sofar = sofar.note(asked, is_below(lower, end), payload);
         if !is_below(end, upper) {
@@ -202,7 +206,11 @@ pub(crate) fn query_answered(times: &[u64], own: &[u8], query: &[u8], reply: &[u
     let mut walk = Walk::start();
     let mut other = Walk::start();
     while walk.cursor.at < query.len() {
-        let Step { span, payload, next } = walk.step(query, times, own);
+        let Step {
+            span,
+            payload,
+            next,
+        } = walk.step(query, times, own);
         let lower = lower_of(walk);
         let upper = upper_of(span);
         let asked = asks(query, times, own, span, payload);

@@ -1,6 +1,6 @@
 -- `folding::inquire_checked` meets its contract.
 use Prim.Native.Nat.{◌+◌, ◌*◌}
-use mathlib.Core.Path.{◌≡◌, refl, sym, ◌∙◌}
+use mathlib.Core.Path.{refl, sym}
 use native.Mathlib.Omega.{arith}
 use lib.ListN.{length}
 use lib.Seq.{length-take-le}
@@ -54,7 +54,7 @@ returns-then-not-holds-clause-needed_value c =
     let B : Table = lent c.args.fresh.now c.args.freshids.now in
     let s = c.survey-tally in
     let due = due_is (ids_in c.args.size c.args.needed.now) (items (front c.args.count T)) B s.result.found s.ensures.found_value.0 c.if-tally-entering.false c.some_common.result
-        (rw (front-lent c.args.count c.args.times.now c.args.ids.now) at c.some_common.ensures) in
+    (rw (front-lent c.args.count c.args.times.now c.args.ids.now) at c.some_common.ensures) in
     rw (due, c.if-some_common.false, told_short (c.args.count + length c.args.fresh.now) T c.holds.result c.holds.ensures c.if-not-holds.true) refl
 
 pub returns-clause-needed_value : goal.returns-clause-needed_value
@@ -64,6 +64,6 @@ returns-clause-needed_value c =
     let ds = ids_in c.args.size c.args.needed.now in
     let s = c.survey-tally in
     let due = due_is ds (items (front c.args.count T)) B s.result.found s.ensures.found_value.0 c.if-tally-entering.false c.some_common.result
-        (rw (front-lent c.args.count c.args.times.now c.args.ids.now) at c.some_common.ensures) in
+    (rw (front-lent c.args.count c.args.times.now c.args.ids.now) at c.some_common.ensures) in
     let room = told-holds (c.args.count + length c.args.fresh.now) T c.holds.result c.holds.ensures c.if-not-holds.false in
     rw (due, c.if-some_common.false, room, items-length B, still_is B ds, ← s.ensures.found_value.1) refl

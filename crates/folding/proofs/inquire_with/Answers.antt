@@ -1,6 +1,5 @@
 -- `folding::inquire_with` meets its contract.
-use mathlib.Core.Path.{◌≡◌, ◌∙◌}
-use Prim.Native.Nat.{ℕ}
+use mathlib.Core.Path.{◌∙◌}
 use Rattle.std.proofs.lemmas.Result.{err_from_is_err_and}
 use Rattle.label.specs.Label.{empty}
 use Rattle.table.specs.Code.{lent}

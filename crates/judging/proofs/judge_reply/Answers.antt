@@ -1,7 +1,5 @@
 -- `judging::judge_reply` meets its contract.
-use mathlib.Core.Path.{refl, ap, ◌∙◌}
 use Rattle.std.proofs.lemmas.Result.{err_from_is_err_and}
-use Rattle.table.specs.Answer.{answer}
 use Rattle.table.specs.Code.{lent}
 use Rattle.table.proofs.Checks.{checked, judged-passed, judged-refused}
 use Rattle.judge.specs.Judge.{judged}

@@ -1,5 +1,4 @@
 -- `judging::sets::all_listed` meets its contract. The invariant: the ids up to place i are listed.
-use Prim.Native.Nat.{◌+◌, ◌≤◌}
 use mathlib.Core.Path.{sym, ◌∙◌}
 use native.Mathlib.Omega.{arith}
 use Rattle.judging.proofs.Listing.{block_listed, block-unlisted, all_listed}

@@ -26,9 +26,9 @@ pub(crate) fn make_filter<'a>(
     if searches < 4096 || room.len() < 32768 {
         return None;
     }
-    room.fill(0);
-    for k in 0..n {
-        room[slot(words[k])] = 1;
+    room[..32768].fill(0);
+    for word in &words[..n] {
+        room[slot(*word)] = 1;
     }
     Some(room)
 }

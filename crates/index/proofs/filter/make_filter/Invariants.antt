@@ -4,5 +4,5 @@ use lib.ListN.{get_or}
 use Rattle.index.specs.Filter.{slot_of}
 use Rattle.index.proofs.filter.make_filter.Given as goal
 
-abbrev pub invariant-loop-k : goal.invariant-loop-k
-invariant-loop-k l = (j : ℕ) → j < l.k → get_or l.room (slot_of (get_or l.words j 0)) 0 ≡ 1
+abbrev pub invariant-loop-word : goal.invariant-loop-word
+invariant-loop-word l = (j : ℕ) → j < l.word-index → get_or l.room (slot_of (get_or l.words j 0)) 0 ≡ 1

@@ -77,7 +77,7 @@ module _ (m : List ℕ) (c : RangeCursor) (bytes : Bytes m) (inside : c.at < len
   some_left = omega (arith, ap length first-left.is)
 
   -- none is refused
-  pub reads_on : (r : Result RangeRead Refusal) → ReadAt m c r → IsOk r
+  reads_on : (r : Result RangeRead Refusal) → ReadAt m c r → IsOk r
   reads_on (Ok r) answer = refl
   reads_on (Err k) answer = differ (cc (answer.0, first-left.reads))
 
@@ -117,8 +117,10 @@ module _ (m : List ℕ) (c : RangeCursor) (bytes : Bytes m) (inside : c.at < len
       lawful = ((exact_range (lower_at c)).spells (drop c.at m) (range_of r.range m) (drop r.next.at m) rest-bytes (sym answer.0)).sound;
     }
 
-pub next-range : (m : List ℕ) (c : RangeCursor) (r : RangeRead) → Bytes m → c.at < length m → reading_at m c ≡ read (ranges_at m c) [] → ReadAt m c (Ok r) → Next m c r
-next-range m c r bytes inside whole answer = next_of m c bytes inside whole r answer
+-- a read there is not refused, and reads that range
+pub next-range : (m : List ℕ) (c : RangeCursor) (r : Result RangeRead Refusal) → Bytes m → c.at < length m → reading_at m c ≡ read (ranges_at m c) [] → ReadAt m c r
+    → IsOk r × ((o : RangeRead) → r ≡ Ok o → Next m c o)
+next-range m c r bytes inside whole answer = (reads_on m c bytes inside whole r answer, λ o is. next_of m c bytes inside whole o (rw is at answer))
 
 -- ---- the first range, and the end
 
@@ -176,7 +178,7 @@ gives : (m : List ℕ) (c : RangeCursor) (reads : List (Result RangeRead Refusal
     → length reads ≤ length (ranges_at m c) → Gives m c (ranges_at m c) reads
 gives m c [] bytes whole inside turn few = record { found = tt; in_order = refl; others = refl; whole = whole; inside = inside }
 gives m c (Ok r ∷ reads) bytes whole inside turn few =
-    let n = next-range m c r bytes (before-end m c (omega arith)) whole turn.0 in
+    let n = (next-range m c (Ok r) bytes (before-end m c (omega arith)) whole turn.0).1 r refl in
     let rest = gives m r.next reads bytes n.reads n.placed.2 turn.1 (omega (arith, ap length n.first)) in
     rw n.first (record {
       found = (refl, rest.found);

@@ -3,7 +3,6 @@ ghost use Rattle.std.specs.Prelude.{◌≡◌, true, false, [], ◌∷◌, lengt
 ghost use Rattle.message.specs.Meaning.{write_message};
 ghost use Rattle.writer.specs.Writing.{lay, started};
 ghost use Rattle.writer.specs.Stream.{before};
-ghost use Rattle.writer.specs.declared.write.Writer as W;
 ghost use Rattle.writer.specs.Handover.{writes, buffer_of, after, HandsOver};
 ghost use Rattle.table.specs.Code.{lent};
 ghost use Rattle.table.specs.Private.{Passed};
@@ -70,7 +69,7 @@ pub fn measure(
     Some(writer.at)
 }
 
-// A message, written at the start of `out` as far as it has room.
+// A message, written at the start of `out` as far as it has room, and the writer behind what was written.
 pub fn write(
     kind: Kind,
     times: &[u64],
@@ -78,12 +77,13 @@ pub fn write(
     cut: Cut,
     m: &[u8],
     out: &mut [u8],
-) -> Result<(), Refusal>
+) -> (Writer, Result<(), Refusal>)
     requires { Passed (lent times.now own.now) × (outside_limits (cut_of cut) ≡ false) × Walks kind (lent times.now own.now) m.now }
-    ensures { (w : W.Writer) × HandsOver true (to_send kind (cut_of cut) (lent times.now own.now) m.now) (before started (lay (0x61 ∷ []) out.old)) (after result w out.new) }
+    ensures { HandsOver true (to_send kind (cut_of cut) (lent times.now own.now) m.now) (before started (lay (0x61 ∷ []) out.old)) (after result.1 result.0 out.new) }
 {
     let mut writer = Writer::START;
     // Where the byte 61 has no room, the first range has none.
     let _ = Writer::begin(out);
-    put_message(&mut writer, out, Pass::Write, kind, times, own, cut, m)
+    let written = put_message(&mut writer, out, Pass::Write, kind, times, own, cut, m);
+    (writer, written)
 }

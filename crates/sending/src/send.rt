@@ -34,7 +34,7 @@ fn send_whole(
     if out.len() < size {
         return Err(Refusal::NoRoom);
     }
-    write(kind, times, own, cut, m, out)?;
+    write(kind, times, own, cut, m, out).1?;
     Ok(size)
 }
 

@@ -57,7 +57,7 @@ module _ (T : Table) (m : List ℕ) (w : Walk) (ok : Passed T) (bytes : Bytes m)
     (r : RangeRead) (answer : ReadAt m w.cursor (Ok r))
     (hi : ℕ) (place : hi ≡ place_of (bound_of r.range.bound r.range.prefix) (items T)) (fits : hi ≤ length T.times) where
   next : Next m w.cursor r
-  next = next-range m w.cursor r bytes inside walking.reads answer
+  next = (next-range m w.cursor (Ok r) bytes inside walking.reads answer).1 r refl
 
   pub stepped : Stepped T m w (step_to w r hi)
   stepped =

@@ -4,4 +4,4 @@ use Rattle.sending.proofs.put.write.Goals as goal
 
 pub returns : goal.returns
 unfolding started
-returns c = (c.put_message.new.writer, rw c.begin.ensures.out_after at c.put_message.ensures)
+returns c = rw c.begin.ensures.out_after at c.put_message-written.ensures

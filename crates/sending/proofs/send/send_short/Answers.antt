@@ -96,7 +96,7 @@ returns-in_err-put_closing-2 c =
     let by : Bytes a.own.now = small_bytes a.own.now (λ k. omega (arith, c.type_inv.own k)) in
     let bm : Bytes a.m.now = small_bytes a.m.now (λ k. omega (arith, c.type_inv.m k)) in
     let well = sent-rises T (cut_of a.cut) by c.requires.0 c.requires.1 a.kind a.m.now bm c.requires.2 in
-    let run = run-written T (a.most - 19) a.most e _ _ s close k a.out.now room well c.requires.4 _ c.write.ensures.1 in
+    let run = run-written T (a.most - 19) a.most e _ _ s close k a.out.now room well c.requires.4 _ c.write.ensures in
     let z : taken ≡ refused _ = sym (written-taken T (a.most - 19) a.most e _ _ close k a.out.now room _ run _ c.put_closing-2.ensures) ∙ ap verdict_of c.in_err-put_closing-2.was in
     differ (cc)
 
@@ -113,5 +113,5 @@ returns c =
     let by : Bytes a.own.now = small_bytes a.own.now (λ k. omega (arith, c.type_inv.own k)) in
     let bm : Bytes a.m.now = small_bytes a.m.now (λ k. omega (arith, c.type_inv.m k)) in
     let well = sent-rises T (cut_of a.cut) by c.requires.0 c.requires.1 a.kind a.m.now bm c.requires.2 in
-    let run = run-written T (a.most - 19) a.most e _ _ s close k a.out.now room well c.requires.4 _ c.write.ensures.1 in
+    let run = run-written T (a.most - 19) a.most e _ _ s close k a.out.now room well c.requires.4 _ c.write.ensures in
     has-sent _ a.out.now _ _ room measured (closed-out T (a.most - 19) a.most e _ _ close k a.out.now room _ run _ c.put_closing-2.ensures)

@@ -24,7 +24,7 @@ returns-in_err-write c =
     let bm : Bytes a.m.now = small_bytes a.m.now (λ k. omega (arith, c.type_inv.m k)) in
     let rise = sent-rises (lent a.times.now a.own.now) (cut_of a.cut) by c.requires.0 c.requires.1 a.kind a.m.now bm c.requires.2 in
     let room : length (write_message whole) ≤ length a.out.now = omega (arith, c.requires.3) in
-    let e : taken ≡ refused _ = sym (all-taken whole a.out.now _ rise room c.write.ensures.1) ∙ ap verdict_of c.in_err-write.was in
+    let e : taken ≡ refused _ = sym (all-taken whole a.out.now _ rise room c.write.ensures) ∙ ap verdict_of c.in_err-write.was in
     differ (cc)
 
 pub returns : goal.returns
@@ -35,4 +35,4 @@ returns c =
     let bm : Bytes a.m.now = small_bytes a.m.now (λ k. omega (arith, c.type_inv.m k)) in
     let rise = sent-rises (lent a.times.now a.own.now) (cut_of a.cut) by c.requires.0 c.requires.1 a.kind a.m.now bm c.requires.2 in
     let room : length (write_message whole) ≤ length a.out.now = omega (arith, c.requires.3) in
-    has-sent (write_message whole) a.out.now _ _ room c.requires.3 (sent-out whole a.out.now _ rise room c.write.ensures.1)
+    has-sent (write_message whole) a.out.now _ _ room c.requires.3 (sent-out whole a.out.now _ rise room c.write.ensures)

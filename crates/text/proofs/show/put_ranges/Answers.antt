@@ -5,7 +5,7 @@ use Rattle.message.specs.declared.Refusal.{Refusal}
 use Rattle.reader.specs.Stepping.{starts, ReadAt}
 use Rattle.reader.specs.declared.range.RangeCursor.{RangeCursor}
 use Rattle.reader.specs.declared.range.RangeRead.{RangeRead}
-use Rattle.reader.proofs.Stepping.{Next, reads_on, next-range, reading-ends}
+use Rattle.reader.proofs.Stepping.{Next, next-range, reading-ends}
 use Rattle.text.specs.Text.{line, room}
 use Rattle.text.proofs.Putting.{length_part}
 use Rattle.text.proofs.Showing.{Shows, bytes_of, shows_start, line-fits, shows_step, shows_end}
@@ -15,7 +15,7 @@ use Rattle.text.proofs.show.put_ranges.Goals as goal
 module _ (m out₀ out : List ℕ) (c : RangeCursor) (n : ℕ) (r : RangeRead) (o : Result RangeRead Refusal) (is : o ≡ Ok r)
     (bytes : Bytes m) (s : Shows m out₀ out c n) (test : c.at < length m) (e : ReadAt m c o) where
   next : Next m c r
-  next = next-range m c r bytes test s.whole (rw is at e)
+  next = (next-range m c o bytes test s.whole e).1 r is
 
   fits : length m ≤ 65536 → room ≤ length out₀ → (n + length (line (range_of r.range m)) ≤ room) × (room ≤ length out)
   fits few wide = line-fits m out₀ out c n bytes few wide s r next
@@ -27,7 +27,7 @@ loop-cursor-init c = shows_start c.args.m.now c.args.out.now (bytes_of c.args.m.
 pub unwrap-requires : goal.unwrap-requires
 unwrap-requires c =
     let l = c.loop-cursor in
-    reads_on c.args.m.now l.cursor (bytes_of c.args.m.now c.type_inv.m) (omega arith) l.invariant.whole _ c.range.ensures
+    (next-range c.args.m.now l.cursor _ (bytes_of c.args.m.now c.type_inv.m) (omega arith) l.invariant.whole c.range.ensures).0
 
 pub slice_bounds-put_range-count : goal.slice_bounds-put_range-count
 slice_bounds-put_range-count c =

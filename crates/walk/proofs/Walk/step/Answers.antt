@@ -1,13 +1,13 @@
 use Rattle.std.proofs.Common.{arith}
 use Rattle.message.proofs.Order.{Small, small_bytes}
-use Rattle.reader.proofs.Stepping.{reads_on}
+use Rattle.reader.proofs.Stepping.{next-range}
 use Rattle.walk.proofs.Steps.{stepped}
 use Rattle.walk.proofs.Walk.step.Goals as goal
 
 pub unwrap-requires : goal.unwrap-requires
 unwrap-requires c =
     let small : Small c.args.m.now = λ k. omega (arith, c.type_inv.m k) in
-    reads_on c.args.m.now c.args.self.cursor (small_bytes c.args.m.now small) c.requires.2 c.requires.1.reads _ c.range.ensures
+    (next-range c.args.m.now c.args.self.cursor _ (small_bytes c.args.m.now small) c.requires.2 c.requires.1.reads c.range.ensures).0
 
 pub returns : goal.returns
 returns c =

@@ -7,6 +7,5 @@ pub returns : goal.returns
 returns c =
     let a = c.args in
     let w = c.width-first in
-    rw c.copy_from_slice.ensures.after
-    (ids-laid a.count a.at _ _ w.result a.source.now a.out.now c.write_varint.new.out (omega arith) (omega arith) w.ensures c.requires.0 (omega (arith, w.ensures, c.requires.1))
-    c.write_varint.ensures.out_after)
+    ids-laid a.count a.at w.result a.source.now a.out.now c.write_varint.new.out c.copy_ids.new.out w.ensures c.requires.0 (omega (arith, w.ensures, c.requires.1))
+    c.write_varint.ensures.out_after c.copy_ids.ensures

@@ -77,7 +77,7 @@ module _ (m : List ℕ) (c : RangeCursor) (bytes : Bytes m) (inside : c.at < len
   some_left = omega (arith, ap length first-left.is)
 
   -- none is refused
-  reads_on : (r : Result RangeRead Refusal) → ReadAt m c r → IsOk r
+  pub reads_on : (r : Result RangeRead Refusal) → ReadAt m c r → IsOk r
   reads_on (Ok r) answer = refl
   reads_on (Err k) answer = differ (cc (answer.0, first-left.reads))
 

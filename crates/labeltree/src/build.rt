@@ -34,6 +34,7 @@ fn store_places(ids: &[u8], places: usize, tree: &mut [u8])
 }
 
 // Makes label `at` and all labels below it afresh, each from its two halves, down to the places, `level` levels below it.
+#[tactic(auto, using(tree::proofs::Building::renewed_pair))]
 fn sum_halves(tree: &mut [u8], level: usize, at: usize)
     requires { 40 * ((at + 2) * 2 ^ level) ≤ length tree.old + 40 }
     ensures { tree.new ≡ renew_below level at tree.old }
@@ -41,11 +42,13 @@ fn sum_halves(tree: &mut [u8], level: usize, at: usize)
     if level == 0 {
         return;
     }
-    // Where both halves are places, a call for each of them would only return.
-    if level > 1 {
-        sum_halves(tree, level - 1, 2 * at + 1);
-        sum_halves(tree, level - 1, 2 * at + 2);
+    // Both halves are places: a call for each of them would only return. These are half of all calls, and returned from here they keep no register.
+    if level == 1 {
+        renew(tree, at);
+        return;
     }
+    sum_halves(tree, level - 1, 2 * at + 1);
+    sum_halves(tree, level - 1, 2 * at + 2);
     renew(tree, at);
 }
 

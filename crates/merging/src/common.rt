@@ -8,7 +8,8 @@ ghost use Rattle.fold.specs.Fold.{same_item};
 
 use crate::item_below;
 
-// Whether some item of a batch is in a table: both are gone through once, from their first items.
+// Whether some item of a batch is in a table: both are gone through once, from their first items. Not inlined: by itself the loop keeps what it needs in registers.
+#[inline(never)]
 pub fn some_common(times: &[u64], ids: &[u8], fresh: &[u64], freshids: &[u8]) -> bool
     requires { Passed (lent times.now ids.now) × Passed (lent fresh.now freshids.now) }
     ensures { result ≡ some (λ i. some (same_item i) (items (lent times.now ids.now))) (items (lent fresh.now freshids.now)) }

@@ -8,7 +8,7 @@ use lib.Dec.{eqb, ltb}
 use lib.ListN.{length, take, drop}
 use lib.Pointwise.{pointwise}
 use lib.Seq.{drop-drop, take-take, length-take-le}
-use borrow.Author.Tests.{ltb-true, ltb-false}
+use borrow.Author.Tests.{ltb-true, ltb-false, eq-eqb, ne_eqb}
 use Rattle.message.specs.Bound.{big_endian}
 use Rattle.message.specs.Code.{ids_in}
 use Rattle.message.specs.WellFormed.{Sized}
@@ -45,6 +45,16 @@ other_word d e h = by_test (same (take 32 d) (take 32 e)) (λ p. absurd (h (sym 
   where
     first_word : (l : List ℕ) → big_endian 8 (take 32 l) ≡ big_endian 8 l
     first_word l = sym (big_endian-take 8 (take 32 l)) ∙ ap (big_endian 8) (take-take 8 32 l (omega arith)) ∙ big_endian-take 8 l
+
+-- two numbers, by which of them is below the other
+pub neither_below : (x y : ℕ) → ltb x y ≡ false → ltb y x ≡ false → true ≡ eqb x y
+neither_below x y e f = sym (eq-eqb x y (omega (arith, ltb-false x y e, ltb-false y x f)))
+
+pub below_other : (x y : ℕ) → ltb x y ≡ true → false ≡ eqb x y
+below_other x y e = sym (ne_eqb x y (λ q. omega (arith, ltb-true x y e)))
+
+pub above_other : (x y : ℕ) → ltb y x ≡ true → false ≡ eqb x y
+above_other x y e = sym (ne_eqb x y (λ q. omega (arith, ltb-true y x e)))
 
 -- ids with the same number are the same
 pub same-by-number : (d e : List ℕ) → Small d → Small e → 32 ≤ length d → 32 ≤ length e → same (take 32 d) (take 32 e) ≡ eqb (big_endian 32 d) (big_endian 32 e)

@@ -15,14 +15,18 @@ pub fn same_bytes(p: &[u8], q: &[u8]) -> bool
     p == q
 }
 
-// Whether the ids that begin two slices are the same. Out of line: inlined behind a word of the same id it keeps the compiler from loading that word at once, and
-// `find` took twice as long.
-#[inline(never)]
+// Whether the ids that begin two slices are the same, compared as four words: `==` of two slices of 32 bytes goes by smaller groups, and where ids begin alike it took up
+// to 1.6 times as long.
 pub fn same_id(a: &[u8], b: &[u8]) -> bool
     requires { (32 ≤ length a.now) × (32 ≤ length b.now) }
     ensures { result ≡ eqb (big_endian 32 a.now) (big_endian 32 b.now) }
 {
-    a[..32] == b[..32]
+    for k in 0..4 {
+        if word(a, 8 * k) != word(b, 8 * k) {
+            return false;
+        }
+    }
+    true
 }
 
 // Whether the id that begins a slice stands at a place of another. Its first eight bytes are compared as one word: most ids differ there.

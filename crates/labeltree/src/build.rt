@@ -39,17 +39,16 @@ fn sum_halves(tree: &mut [u8], level: usize, at: usize)
     requires { 40 * ((at + 2) * 2 ^ level) ≤ length tree.old + 40 }
     ensures { tree.new ≡ renew_below level at tree.old }
 {
-    if level == 0 {
-        return;
+    match level {
+        0 => {}
+        // Both halves are places: a call for each of them would only return. These are half of all calls, and have an arm of their own so that they keep no register.
+        1 => renew(tree, at),
+        _ => {
+            sum_halves(tree, level - 1, 2 * at + 1);
+            sum_halves(tree, level - 1, 2 * at + 2);
+            renew(tree, at);
+        }
     }
-    // Both halves are places: a call for each of them would only return. These are half of all calls, and returned from here they keep no register.
-    if level == 1 {
-        renew(tree, at);
-        return;
-    }
-    sum_halves(tree, level - 1, 2 * at + 1);
-    sum_halves(tree, level - 1, 2 * at + 2);
-    renew(tree, at);
 }
 
 // Stores all labels of the tree over the items with these ids.

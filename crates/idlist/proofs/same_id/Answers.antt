@@ -38,8 +38,7 @@ loop-k-preserved c =
     let b = c.args.b.now in
     let at : ℕ = 8 * c.loop-k.k in
     let next : at + 8 ≡ 8 * (c.loop-k.k + 1) = omega arith in
-    let e : big_endian 8 (drop at a) ≡ big_endian 8 (drop at b) = sym c.word.ensures ∙ c.if-word.false ∙ c.word-in-loop-k.ensures in
-    (
+    let e : big_endian 8 (drop at a) ≡ big_endian 8 (drop at b) = sym c.word.ensures ∙ c.if-word.false ∙ c.word-in-loop-k.ensures in (
       c.loop-k.invariant.0 ∙ word_same a b at small-a small_b (omega arith) e ∙ ap (λ (n : ℕ). ltb (from a n) (from b n)) next,
       c.loop-k.invariant.1 ∙ word_same b a at small_b small-a (omega arith) (sym e) ∙ ap (λ (n : ℕ). ltb (from b n) (from a n)) next,
     )
